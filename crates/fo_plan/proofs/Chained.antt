@@ -3,7 +3,7 @@ use Rattle.std.proofs.Common.{◌≡◌, ◌∙◌, ℕ, ◌+◌, ◌<◌, ◌�
 use Rattle.std.proofs.Math.Seq.{drop-append-add}
 use Rattle.std.proofs.lemmas.List.{append-nil, length-take-le}
 use Rattle.std.proofs.lemmas.List.Elements.{Contains-append_right, Contains-append_cases}
-use Rattle.cqa_value.proofs.Words.{mem-nil, mem-cases}
+use Rattle.cqa_value.proofs.Words.{mem-nil, mem-cases, Contains-from_take}
 use Rattle.cqa_model.specs.declared.query.Query.{Query}
 use Rattle.cqa_model.specs.Shape.{AreDistinct}
 use Rattle.plan_rows.specs.Left.{AreQueryAtoms}
@@ -53,6 +53,11 @@ atoms-further q atoms old new some front h F m = elim (Contains-append_cases old
 
 pub Contains-from_drop : (n : ℕ) (xs : List ℕ) (x : ℕ) → Contains (drop n xs) x → Contains xs x
 Contains-from_drop n xs x m = subst (λ ys. Contains ys x) (take-append-drop n xs) (Contains-append_right (take n xs) (drop n xs) x m)
+
+-- what goes on by later atoms of an order, behind its first ones, are atoms of the query
+pub telling-atoms : (q : Query) (order : List ℕ) (place : ℕ) (atoms : List ℕ) → AreQueryAtoms q order → GoesOn (drop (place + 1) order) (take place order) atoms → AreQueryAtoms q atoms
+telling-atoms q order place atoms own h =
+    atoms-further q (drop (place + 1) order) (take place order) atoms (λ F m. own F (Contains-from_drop (place + 1) order F m)) (λ F m. own F (Contains-from_take place order F m)) h
 
 -- one more is left out
 pub drop-next : (n : ℕ) (xs : List ℕ) → n ≤ length xs → drop 1 (drop n xs) ≡ drop (n + 1) xs

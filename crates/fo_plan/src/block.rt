@@ -17,7 +17,7 @@ use crate::enough::Blocks;
 use crate::holding::first_of;
 use cqa_model::Plan;
 use cqa_value::{Items, Row};
-use join_access::{RowIndex, table_of};
+use join_access::RowIndex;
 use plan_rows::{
     Candidates, Course, Link, Memo, Setting, Step, Taken, grouped_along, shared_or_none,
 };
@@ -60,7 +60,7 @@ pub fn first_block<'a, 'x>(
     drop(blocks);
     let block = found?;
     let course = step.course;
-    let table = table_of(course.setting.bound.query, step.atom);
+    let table = course.setting.bound.table_of(step.atom);
     // `block` is borrowed as long as the step only, so it is looked up in the database.
     Some(block_with(db, table, block.get(0)))
 }

@@ -1,23 +1,19 @@
 //! The later atoms of an order by which an atom is linked to what is known when a plan comes to it.
 
 ghost use Rattle.std.specs.Prelude.{◌≡◌, ◌<◌, ◌+◌, IfOk, IfSome, OnOk, Contains, length, take, drop};
-ghost use Rattle.plan_rows.specs.Left.{AreQueryAtoms};
 ghost use Rattle.fo_plan.specs.Chaining.{GoesOn};
 
 use crate::paths::is_known;
 use cqa_model::ColRef;
 use cqa_value::NoMemory;
-use join_access::width_of;
 use plan_rows::{Setting, is_told};
+use table_blocks::Bound;
 
 /// Whether the value of one of an atom's columns is given, or told by a row of some atoms.
-fn is_linked(setting: &Setting<'_>, taken: &[u32], given: &[ColRef], atom: u32) -> bool
-    requires taken { AreQueryAtoms setting.now.bound.now.query.now taken.now }
-    requires atom { atom < length setting.now.bound.now.query.now.atoms }
-{
-    for col in 0..width_of(setting.bound.query, atom) {
+fn is_linked(bound: &Bound<'_>, taken: &[u32], given: &[ColRef], atom: u32) -> bool {
+    for col in 0..bound.width_of(atom) {
         let column = ColRef { atom, col };
-        if given.contains(&column) || is_told(setting, taken, column) {
+        if given.contains(&column) || is_told(bound, taken, column) {
             return true;
         }
     }
@@ -25,15 +21,9 @@ fn is_linked(setting: &Setting<'_>, taken: &[u32], given: &[ColRef], atom: u32) 
 }
 
 /// Whether all values of an atom's key are known once rows of some atoms are taken.
-fn is_key_known(setting: &Setting<'_>, taken: &[u32], given: &[ColRef], atom: u32) -> bool
-    requires taken { AreQueryAtoms setting.now.bound.now.query.now taken.now }
-    requires atom { atom < length setting.now.bound.now.query.now.atoms }
-{
-    for col in setting.bound.query.atoms.as_slice()[atom as usize]
-        .key
-        .as_slice()
-    {
-        if !is_known(setting, taken, given, ColRef { atom, col: *col }) {
+fn is_key_known(bound: &Bound<'_>, taken: &[u32], given: &[ColRef], atom: u32) -> bool {
+    for col in bound.key_of(atom) {
+        if !is_known(bound, taken, given, ColRef { atom, col: *col }) {
             return false;
         }
     }
@@ -42,29 +32,24 @@ fn is_key_known(setting: &Setting<'_>, taken: &[u32], given: &[ColRef], atom: u3
 
 /// Whether other atoms may link an atom to what is known once rows of some atoms are taken: something is known, but none of the
 /// atom's own columns is told by these rows, or given at the beginning, nor is its key known.
-fn needs_links(setting: &Setting<'_>, taken: &[u32], given: &[ColRef], atom: u32) -> bool
-    requires taken { AreQueryAtoms setting.now.bound.now.query.now taken.now }
-    requires atom { atom < length setting.now.bound.now.query.now.atoms }
-{
+fn needs_links(bound: &Bound<'_>, taken: &[u32], given: &[ColRef], atom: u32) -> bool {
     let is_linked = if taken.is_empty() {
-        given.is_empty() || is_linked(setting, taken, given, atom)
+        given.is_empty() || is_linked(bound, taken, given, atom)
     } else {
-        is_linked(setting, taken, &[], atom)
+        is_linked(bound, taken, &[], atom)
     };
-    !is_linked && !is_key_known(setting, taken, given, atom)
+    !is_linked && !is_key_known(bound, taken, given, atom)
 }
 
 /// One of these atoms that is linked to what is known once rows of others are taken: the first whose key is known, else
 /// the first.
-fn linked_atom(setting: &Setting<'_>, taken: &[u32], given: &[ColRef], atoms: &[u32]) -> Option<u32>
-    requires taken { AreQueryAtoms setting.now.bound.now.query.now taken.now }
-    requires atoms { AreQueryAtoms setting.now.bound.now.query.now atoms.now }
+fn linked_atom(bound: &Bound<'_>, taken: &[u32], given: &[ColRef], atoms: &[u32]) -> Option<u32>
     ensures { IfSome result (Contains atoms.now) }
 {
     let mut linked = None;
     for atom in atoms {
-        if is_linked(setting, taken, given, *atom) {
-            if is_key_known(setting, taken, given, *atom) {
+        if is_linked(bound, taken, given, *atom) {
+            if is_key_known(bound, taken, given, *atom) {
                 return Some(*atom);
             }
             if linked.is_none() {
@@ -77,20 +62,18 @@ fn linked_atom(setting: &Setting<'_>, taken: &[u32], given: &[ColRef], atoms: &[
 
 /// Parts atoms into those that are joined to one of these ends, and the others.
 fn part(
-    setting: &Setting<'_>,
+    bound: &Bound<'_>,
     ends: &[u32],
     atoms: &[u32],
     joined: &mut Vec<u32>,
     others: &mut Vec<u32>,
 ) -> Result<(), NoMemory>
-    requires ends { AreQueryAtoms setting.now.bound.now.query.now ends.now }
-    requires atoms { AreQueryAtoms setting.now.bound.now.query.now atoms.now }
     ensures joined { OnOk result (GoesOn atoms.now joined.old.items joined.new.items) }
     ensures others { OnOk result (GoesOn atoms.now others.old.items others.new.items) }
     ensures size { OnOk result (length joined.new.items + length others.new.items ≡ length joined.old.items + length others.old.items + length atoms.now) }
 {
     for atom in atoms {
-        if is_linked(setting, ends, &[], *atom) {
+        if is_linked(bound, ends, &[], *atom) {
             joined.push(*atom)?;
         } else {
             others.push(*atom)?;
@@ -101,16 +84,14 @@ fn part(
 
 /// Adds to the atoms whose rows are taken one of these that is linked to what is known then, if there is one.
 fn add_linked(
-    setting: &Setting<'_>,
+    bound: &Bound<'_>,
     given: &[ColRef],
     atoms: &[u32],
     taken: &mut Vec<u32>,
 ) -> Result<(), NoMemory>
-    requires atoms { AreQueryAtoms setting.now.bound.now.query.now atoms.now }
-    requires taken { AreQueryAtoms setting.now.bound.now.query.now taken.old.items }
     ensures { OnOk result (GoesOn atoms.now taken.old.items taken.new.items) }
 {
-    if let Some(link) = linked_atom(setting, taken.as_slice(), given, atoms) {
+    if let Some(link) = linked_atom(bound, taken.as_slice(), given, atoms) {
         taken.push(link)?;
     }
     Ok(())
@@ -125,21 +106,19 @@ fn add_chain(
     atoms: &[u32],
     taken: &mut Vec<u32>,
 ) -> Result<(), NoMemory>
-    requires ends { AreQueryAtoms setting.now.bound.now.query.now ends.now }
-    requires atoms { AreQueryAtoms setting.now.bound.now.query.now atoms.now }
-    requires taken { AreQueryAtoms setting.now.bound.now.query.now taken.old.items }
     ensures { OnOk result (GoesOn atoms.now taken.old.items taken.new.items) }
 {
+    let bound = setting.bound;
     let mut joined = Vec::new(setting.alloc);
     let mut others = Vec::new(setting.alloc);
-    part(setting, ends, atoms, &mut joined, &mut others)?;
+    part(bound, ends, atoms, &mut joined, &mut others)?;
     if joined.is_empty() {
         return Ok(());
     }
-    if linked_atom(setting, taken.as_slice(), given, joined.as_slice()).is_none() {
+    if linked_atom(bound, taken.as_slice(), given, joined.as_slice()).is_none() {
         add_chain(setting, given, joined.as_slice(), others.as_slice(), taken)?;
     }
-    add_linked(setting, given, joined.as_slice(), taken)
+    add_linked(bound, given, joined.as_slice(), taken)
 }
 
 /// The atoms whose rows may tell of the rows of the atom at a place of an order: those before it, and where none of them is
@@ -155,15 +134,13 @@ pub(crate) fn telling_atoms(
     place: usize,
     given: &[ColRef],
 ) -> Result<Vec<u32>, NoMemory>
-    requires order { AreQueryAtoms setting.now.bound.now.query.now order.now }
-    requires place { place < length order.now }
-    ensures atoms { IfOk result (λ atoms. AreQueryAtoms setting.now.bound.now.query.now atoms.items) }
-    ensures behind { IfOk result (λ atoms. GoesOn (drop (place + 1) order.now) (take place order.now) atoms.items) }
+    requires { place < length order.now }
+    ensures { IfOk result (λ atoms. GoesOn (drop (place + 1) order.now) (take place order.now) atoms.items) }
 {
     let (taken, others) = order.split_at(place);
     let (ends, later) = others.split_at(1);
     let mut atoms = Vec::from_slice(setting.alloc, taken)?;
-    if needs_links(setting, taken, given, order[place]) {
+    if needs_links(setting.bound, taken, given, order[place]) {
         add_chain(setting, given, ends, later, &mut atoms)?;
     }
     Ok(atoms)

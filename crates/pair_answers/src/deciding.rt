@@ -11,7 +11,6 @@ use crate::pair::PairQuery;
 use crate::starts::block_starts;
 use cqa_model::RowId;
 use cqa_value::{Items, NoMemory, Row};
-use join_access::table_of;
 use std::alloc::Global;
 use weak_pairs::laws::pair_decided;
 use weak_pairs::{Decision, are_certain, decide_rows};
@@ -98,15 +97,15 @@ fn id(pair: &PairQuery<'_>, number: u32) -> RowId
     ensures { result ≡ id_of pair.now.bound.now.query.now (stored pair.now.bound.now.db.now) number }
 {
     let bound = pair.bound;
-    let left = bound.db.rows(table_of(bound.query, 0)).len() as u32;
+    let left = bound.rows_of(0).len() as u32;
     if number < left {
         RowId {
-            table: table_of(bound.query, 0),
+            table: bound.table_of(0),
             place: number,
         }
     } else {
         RowId {
-            table: table_of(bound.query, 1),
+            table: bound.table_of(1),
             place: number - left,
         }
     }

@@ -1,7 +1,7 @@
 //! Which rows fit the row asked for by themselves.
 //! The variables' classes tell which columns are linked, so no closure is computed.
 
-ghost use Rattle.std.specs.Prelude.{◌≡◌, ◌↔◌, ◌<◌, Contains, IsTrue};
+ghost use Rattle.std.specs.Prelude.{◌↔◌, ◌<◌, Contains, IsTrue};
 ghost use Rattle.cqa_model.specs.declared.query.ColRef.{ColRef as Column};
 ghost use Rattle.cqa_model.specs.Query.{atom_at};
 ghost use Rattle.cqa_model.specs.Shape.{IsInRange, columns_of};
@@ -11,7 +11,7 @@ ghost use Rattle.pair_answers.specs.Fitting.{HasLinkedAnswer, GivenBy, GivenFits
 use crate::side::Side;
 use cqa_model::{ColRef, Cond, Op, Query};
 use cqa_value::{NOTHING, Row, Value};
-use join_access::{are_linked, test_holds, width_of};
+use join_access::{are_linked, test_holds};
 
 /// Whether a column of a row has the value of another column, if it is linked to that.
 fn has_value(side: &Side<'_, '_>, x: &Row, i: u32, other: ColRef, value: &Value) -> bool
@@ -32,7 +32,7 @@ fn have_value(side: &Side<'_, '_>, x: &Row, other: ColRef, value: &Value) -> boo
     requires { IsInRange side.now.bound.now.query.now.atoms other }
     ensures { IsTrue result ↔ HaveValueOf side.now.bound.now.query.now side.now.atom x.now other value.now }
 {
-    for i in 0..width_of(side.bound.query, side.atom) {
+    for i in 0..side.bound.width_of(side.atom) {
         if !has_value(side, x, i, other, value) {
             return false;
         }
@@ -44,7 +44,7 @@ fn have_value(side: &Side<'_, '_>, x: &Row, other: ColRef, value: &Value) -> boo
 fn own_fits(side: &Side<'_, '_>, x: &Row) -> bool
     ensures { IsTrue result ↔ OwnFits side.now.bound.now.query.now side.now.atom x.now }
 {
-    for j in 0..width_of(side.bound.query, side.atom) {
+    for j in 0..side.bound.width_of(side.atom) {
         let column = ColRef {
             atom: side.atom,
             col: j,

@@ -14,7 +14,6 @@ use crate::pair::PairQuery;
 use crate::shared::{Shared, shared_columns};
 use crate::side::Side;
 use cqa_value::{NoMemory, Row};
-use join_access::table_of;
 use row_pieces::Rows;
 use std::alloc::Global;
 use weak_pairs::{Lists, Picked, code};
@@ -91,8 +90,8 @@ fn packed_lists(
     ensures few { IfOk result (λ found. IfSome found (λ codes. length (map listed codes.items) ≤ MOST_ROWS + MOST_ROWS)) }
 {
     let bound = pair.bound;
-    let first = bound.db.rows(table_of(bound.query, 0)).len();
-    let second = bound.db.rows(table_of(bound.query, 1)).len();
+    let first = bound.rows_of(0).len();
+    let second = bound.rows_of(1).len();
     let mut codes = Vec::with_capacity(alloc, first + second)?;
     if append_all_codes(pair, row, columns, &mut codes)? {
         return Ok(Some(codes));
@@ -117,8 +116,8 @@ fn append_all_codes(
     ensures few { IfOk result (λ all. IsTrue all → length (map listed codes.new.items) ≤ MOST_ROWS + MOST_ROWS) }
 {
     let bound = pair.bound;
-    let first = bound.db.rows(table_of(bound.query, 0));
-    let second = bound.db.rows(table_of(bound.query, 1));
+    let first = bound.rows_of(0);
+    let second = bound.rows_of(1);
     if !append_codes(&Side::new(bound, row, 0, &columns.left), &first, codes)? {
         return Ok(false);
     }
@@ -173,8 +172,8 @@ fn borrowed_lists<'a>(
     ensures few { IfOk result (λ lists. length lists.items ≤ MOST_ROWS + MOST_ROWS) }
 {
     let bound = pair.bound;
-    let first = bound.db.rows(table_of(bound.query, 0));
-    let second = bound.db.rows(table_of(bound.query, 1));
+    let first = bound.rows_of(0);
+    let second = bound.rows_of(1);
     let mut lists = Vec::with_capacity(alloc, first.len() + second.len())?;
     append_lists(&Side::new(bound, row, 0, &columns.left), &first, &mut lists)?;
     append_lists(

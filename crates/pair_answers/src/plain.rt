@@ -1,12 +1,12 @@
 //! Whether the query alone tells that each row of an atom fits by itself, so that no row has to be looked at.
 
-ghost use Rattle.std.specs.Prelude.{◌≢◌, ◌<◌, IsTrue, length};
+ghost use Rattle.std.specs.Prelude.{◌≢◌, IsTrue};
 ghost use Rattle.cqa_model.specs.Shape.{IsInRange};
 ghost use Rattle.cqa_model.specs.Variables.{AreLinked};
 ghost use Rattle.pair_answers.specs.Plain.{AreColumnsApart, AreJoins, IsJoin, IsPlain};
 
 use cqa_model::{ColRef, Cond, Query};
-use join_access::{are_linked, width_of};
+use join_access::are_linked;
 use table_blocks::Bound;
 
 /// Whether a condition is a join.
@@ -48,10 +48,9 @@ fn is_apart(bound: &Bound<'_>, atom: u32, i: u32, j: u32) -> bool
 
 /// Whether different columns of an atom are of different variables.
 fn are_apart(bound: &Bound<'_>, atom: u32) -> bool
-    requires { atom < length bound.now.query.now.atoms }
     ensures { IsTrue result → AreColumnsApart bound.now.query.now atom }
 {
-    let columns = width_of(bound.query, atom);
+    let columns = bound.width_of(atom);
     for i in 0..columns {
         for j in 0..columns {
             if !is_apart(bound, atom, i, j) {
@@ -65,7 +64,6 @@ fn are_apart(bound: &Bound<'_>, atom: u32) -> bool
 /// Whether each row of an atom fits by itself, as the query tells: it has no answer columns and no tests, and no two
 /// columns of the atom are of one variable.
 pub(crate) fn all_fit(bound: &Bound<'_>, atom: u32) -> bool
-    requires { atom < length bound.now.query.now.atoms }
     ensures { IsTrue result → IsPlain bound.now.query.now atom }
 {
     if !bound.query.answer.is_empty() {

@@ -9,7 +9,7 @@ ghost use Rattle.pair_answers.specs.Shared.{pairs_of};
 use crate::pair::PairQuery;
 use cqa_model::ColRef;
 use cqa_value::NoMemory;
-use join_access::{are_linked, width_of};
+use join_access::are_linked;
 use std::alloc::Global;
 
 /// A column of the first atom and one of the second, of one variable.
@@ -30,8 +30,8 @@ pub(crate) fn shared_columns(alloc: Global, pair: &PairQuery<'_>) -> Result<Vec<
 {
     let bound = pair.bound;
     let mut cols = Vec::new(alloc);
-    let left_width = width_of(bound.query, 0);
-    let right_width = width_of(bound.query, 1);
+    let left_width = bound.width_of(0);
+    let right_width = bound.width_of(1);
     for i in 0..left_width {
         for j in 0..right_width {
             let linked = are_linked(

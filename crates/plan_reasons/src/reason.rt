@@ -52,9 +52,8 @@ fn by_block(
         return Ok(None);
     };
     let first = plan.order.as_slice()[0];
-    let atom = &bound.query.atoms.as_slice()[first as usize];
-    let table = atom.table;
-    let key = values_of(alloc, atom.key.as_slice(), block.get(0))?;
+    let table = bound.table_of(first);
+    let key = values_of(alloc, bound.key_of(first), block.get(0))?;
     Ok(Some(Reason::ByBlock { table, key }))
 }
 

@@ -1,21 +1,15 @@
 -- The columns of first atoms of an order that are linked to columns of the others.
-use Rattle.std.proofs.Common.{◌≡◌, ℕ, zero, suc, ◌<◌, ◌+◌, List, [], ◌∷◌, ◌++◌, length, get_or, take, drop, sym, ap, ◌∙◌, subst, arith, Contains}
+use Rattle.std.proofs.Common.{◌≡◌, ℕ, ◌<◌, ◌+◌, List, [], ◌∷◌, ◌++◌, length, get_or, take, drop, sym, ap, ◌∙◌, subst, arith, Contains}
 use native.Mathlib.Decide.{dec_lt}
 use Rattle.std.proofs.Math.Seq.{get_or-append_seam, take-append_seam, drop-append_seam}
 use Rattle.std.proofs.lemmas.List.{length-append, get_or_append_left, get_or_default}
 use Rattle.cqa_model.specs.declared.query.ColRef.{ColRef}
 use Rattle.cqa_model.specs.declared.query.Query.{Query}
-use Rattle.cqa_model.proofs.Classic.{mem-tail}
 use Rattle.plan_rows.specs.Left.{HasShared, AreSharedInParts}
 
 -- a property of each atom of a list, by places
 pub each-atom : (P : ℕ → Type 0) (atoms : List ℕ) (n : ℕ) → length atoms ≡ n → ((k : ℕ) → k < n → P (get_or atoms k 0)) → (F : ℕ) → Contains atoms F → P F
 each-atom P atoms n e h F m = subst P (get_or_default atoms m.0 0 F m.1 ∙ m.2) (h m.0 (omega (arith, m.1, e)))
-
-pub drop-member : (n : ℕ) (plan : List ℕ) (F : ℕ) → Contains (drop n plan) F → Contains plan F
-drop-member zero plan F m = m
-drop-member (suc n) [] F m = m
-drop-member (suc n) (G ∷ plan) F m = mem-tail F G plan (drop-member n plan F m)
 
 -- with the columns of one atom more in front
 pub shared-more : (q : Query) (order : List ℕ) (shared : List (List ColRef)) (columns : List ColRef) (count : ℕ) (front rest : List ℕ) → length shared ≡ count → front ≡ take count order → rest ≡ drop count order → AreSharedInParts q order shared → HasShared q front rest columns →

@@ -4,10 +4,7 @@ use Rattle.std.proofs.lemmas.Bool.{cases_lt}
 use Rattle.std.proofs.lemmas.Option.{get_or_from_slice_get}
 use Rattle.cqa_value.specs.declared.value.Value.{Value}
 use Rattle.cqa_model.specs.declared.query.Query.{Query}
-use Rattle.cqa_model.specs.Database.{Table, stored}
-use Rattle.cqa_model.specs.Query.{atom_at, rows_of}
 use Rattle.cqa_model.specs.Plan.{Placed}
-use Rattle.table_blocks.specs.Tables.{rows_at}
 use Rattle.plan_rows.specs.Links.{LeadsTo}
 use Rattle.plan_rows.specs.Places.{AreThere, IsRowPassed}
 use Rattle.plan_rows.specs.declared.places.Places.{Places}
@@ -49,6 +46,6 @@ module _ (q : Query) (tables : List (List (List Value))) (row : Option (List Val
 pub up-grown : (rows : List (List Value)) (L : List Value → Type 0) (P Q : ℕ → Type 0) (at : ℕ) → ((i : ℕ) → P i → Q i) → IsUpTo rows L P at → IsUpTo rows L Q at
 up-grown rows L P Q at h before i l low f = h i (before i l low f)
 
--- the row that is read at a place of a table is that of its atom
-pub read-row : (q : Query) (db : List Table) (F table : ℕ) (rows : List (List Value)) (at : ℕ) (x : List Value) → rows ≡ rows_at db table → table ≡ (atom_at q F).table → slice_get rows at ≡ Some x → get_or (rows_of q (stored db) F) at [] ≡ x
-read-row q db F table rows at x is table_is there = ap (λ (rs : List (List Value)). get_or rs at []) (sym (is ∙ ap (rows_at db) table_is)) ∙ get_or_from_slice_get rows at x [] there
+-- the row that is read at a place of an atom's rows
+pub read-row : (all rows : List (List Value)) (at : ℕ) (x : List Value) → rows ≡ all → slice_get rows at ≡ Some x → get_or all at [] ≡ x
+read-row all rows at x is there = ap (λ (rs : List (List Value)). get_or rs at []) (sym is) ∙ get_or_from_slice_get rows at x [] there

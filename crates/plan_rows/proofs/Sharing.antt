@@ -20,15 +20,13 @@ use Rattle.cqa_model.specs.Variables.{AreLinked}
 use Rattle.cqa_model.specs.Plan.{Placed, Fits, PlanHolds, answer_at}
 use Rattle.cqa_model.proofs.Classic.{mem-head, mem-tail, mem-nil, mem-cases, map_agree}
 use Rattle.cqa_model.proofs.BrokenKey.{same_number}
-use Rattle.plan_rows.specs.Taking.{placed, taken_value, AreRowsOfAtoms}
+use Rattle.plan_rows.specs.Taking.{taken_value}
 use Rattle.plan_rows.specs.Fitting.{AgreesInFirst, AgreesAll, Suits}
 use Rattle.plan_rows.specs.Left.{IsAnswerSettled}
 use Rattle.table_blocks.specs.Once.{value_set}
-use Rattle.plan_rows.specs.Over.{query_of, rows_before}
 use Rattle.plan_rows.specs.Underway.{atoms_of, IsUnderway, IsMemoKey, IsRight}
 use Rattle.plan_rows.specs.declared.course.Course.{Course}
 use Rattle.plan_rows.specs.declared.memo.Memo.{Memo}
-use Rattle.plan_rows.specs.declared.steps.Step.{Step}
 use Rattle.plan_rows.proofs.Suiting.{agreed-more}
 
 -- the last taken row of an atom
@@ -74,15 +72,9 @@ length-atoms (s ∷ ss) =
     let h = length-atoms ss in
     omega (arith, l, h)
 
--- the atoms of the rows taken and those that are left are of the order, and so of the query
-pub underway-taken : (s : Course) (taken : List Placed) (plan : List ℕ) → IsUnderway s taken plan → AreRowsOfAtoms s.setting.bound.now.query.now taken
-underway-taken s taken plan u t m = s.atoms t.atom (subst (λ order. Contains order t.atom) (sym u.place) (Contains-append_left (atoms_of taken) plan t.atom (in-atoms taken t m)))
-
+-- the first of the atoms that are left is of the order, and so of the query
 pub first-atom : (s : Course) (taken : List Placed) (F : ℕ) (rest : List ℕ) → IsUnderway s taken (F ∷ rest) → F < length s.setting.bound.now.query.now.atoms
 first-atom s taken F rest u = s.atoms F (subst (λ order. Contains order F) (sym u.place) (Contains-append_right (atoms_of taken) (F ∷ rest) F (mem-head F rest)))
-
-pub step-taken : (s : Step) → AreRowsOfAtoms (query_of s) (rows_before s)
-step-taken s = underway-taken s.course.now (placed s.taken.now) (s.atom ∷ s.rest.now) s.underway
 
 -- with one row more
 pub underway-more : (s : Course) (taken : List Placed) (F : ℕ) (rest : List ℕ) (x : List Value) → IsUnderway s taken (F ∷ rest) → Suits s.setting.bound.now.query.now taken F x → IsUnderway s (record { atom = F; row = x } ∷ taken) rest

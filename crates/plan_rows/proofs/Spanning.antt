@@ -1,12 +1,8 @@
 -- Rows outside of the span of the key values that are known don't fit.
-use Rattle.std.proofs.Common.{◌≡◌, ℕ, zero, suc, ◌+◌, ◌-◌, ◌<◌, ◌≤◌, ◌⊎◌, inl, inr, List, [], ◌∷◌, ◌++◌, length, get_or, refl, ap, sym, ◌∙◌, subst, arith, length-append}
+use Rattle.std.proofs.Common.{◌≡◌, ℕ, zero, suc, ◌+◌, ◌-◌, ◌<◌, ◌≤◌, ◌⊎◌, inl, inr, List, [], ◌∷◌, ◌++◌, length, get_or, refl, ap, ◌∙◌, subst, arith, length-append}
 use Rattle.std.proofs.lemmas.List.Elements.{All-contains, Contains-get_or}
 use Rattle.cqa_value.specs.declared.value.Value.{Value}
-use Rattle.cqa_model.specs.declared.query.Query.{Query}
-use Rattle.cqa_model.specs.Database.{Table, stored}
-use Rattle.cqa_model.specs.Query.{atom_at, atom_key, rows_of, FitsDatabase}
 use Rattle.row_order.specs.Spans.{first_key, IsSpan}
-use Rattle.table_blocks.specs.Tables.{key_at, rows_at}
 
 at-front : (xs ys : List (List Value)) (i : ℕ) → i < length xs → get_or (xs ++ ys) i [] ≡ get_or xs i []
 at-front [] ys i l = absurd (omega (arith, l))
@@ -16,12 +12,6 @@ at-front (x ∷ xs) ys (suc i) l = at-front xs ys i (omega (arith, l))
 at-back : (xs ys : List (List Value)) (i : ℕ) → get_or (xs ++ ys) (length xs + i) [] ≡ get_or ys i []
 at-back [] ys i = ap (λ k. get_or ys k []) (let e : 0 + i ≡ i = omega arith in e)
 at-back (x ∷ xs) ys i = ap (λ k. get_or (x ∷ xs ++ ys) k []) (let e : length (x ∷ xs) + i ≡ suc (length xs + i) = omega arith in e) ∙ at-back xs ys i
-
--- the span of a table's rows is one of its atom's
-pub span-of : (q : Query) (db : List Table) → FitsDatabase q db → (F t : ℕ) → F < length q.atoms → t ≡ (atom_at q F).table → (values : List Value) (start : ℕ) (span : List (List Value)) →
-    IsSpan (key_at db t) (rows_at db t) values start span → IsSpan (atom_key q F) (rows_of q (stored db) F) values start span
-span-of q db fits F t l is values start span s =
-    subst (λ key. IsSpan key (rows_of q (stored db) F) values start span) (sym (fits.keyed F l)) (subst (λ n. IsSpan (key_at db n) (rows_at db n) values start span) is s)
 
 -- where rows stand that have some first key values
 module _ (key : List ℕ) (rows : List (List Value)) (values : List Value) (start : ℕ) (span : List (List Value)) (s : IsSpan key rows values start span) where

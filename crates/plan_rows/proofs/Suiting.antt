@@ -1,5 +1,5 @@
 -- Rows that fit, part by part.
-use Rattle.std.proofs.Common.{◌≡◌, ℕ, ◌<◌, ◌↔◌, inl, inr, Bool, true, false, List, [], ◌∷◌, length, get_or, refl, sym, ◌∙◌, subst, Contains}
+use Rattle.std.proofs.Common.{◌≡◌, ℕ, ◌<◌, ◌↔◌, inl, inr, Bool, true, false, List, [], ◌∷◌, get_or, refl, sym, ◌∙◌, subst, Contains}
 use Rattle.std.proofs.lemmas.Bool.{false≢true}
 use Rattle.std.specs.List.{All}
 use Rattle.std.proofs.lemmas.List.Elements.{All-contains, All-contains_itself, All-weaker}
@@ -15,7 +15,7 @@ use Rattle.cqa_model.specs.Plan.{Placed, Fits, TestHolds}
 use Rattle.cqa_model.proofs.Classic.{mem-head, mem-tail, mem-cases}
 use Rattle.cqa_model.proofs.Views.{linked-self}
 use Rattle.cqa_value.specs.Values.{nothing}
-use Rattle.plan_rows.specs.Taking.{AreRowsOfAtoms, AreAgreed}
+use Rattle.plan_rows.specs.Taking.{AreAgreed}
 use Rattle.plan_rows.specs.Fitting.{LeavesOut, ColumnAgrees, AgreesInFirst, AgreesAll, Suits, GivesAt}
 
 pub all_of : {A : Type 0} (P : A → Type 0) (xs : List A) → All P xs → (x : A) → Contains xs x → P x
@@ -41,15 +41,6 @@ alone-agrees q c x y G there h = (
       subst (λ z. get_or x c.col nothing ≡ get_or y z nothing) (λ i. (e i).col) (same (λ i. (e i).atom))),
   (λ g e. g c.col (subst (λ z. c.col < (atom_at q z).width) e there.1) (subst (λ z. AreLinked q c (record { atom = z; col = c.col })) e (linked-self q c))),
 )
-
-pub atoms-head : (q : Query) (taken : List Placed) (t : Placed) (ts : List Placed) → taken ≡ t ∷ ts → AreRowsOfAtoms q taken → t.atom < length q.atoms
-atoms-head q taken t ts e h = h t (subst (λ z. Contains z t) (sym e) (mem-head t ts))
-
-pub atoms-tail : (q : Query) (taken : List Placed) (t : Placed) (ts : List Placed) → taken ≡ t ∷ ts → AreRowsOfAtoms q taken → AreRowsOfAtoms q ts
-atoms-tail q taken t ts e h s m = h s (subst (λ z. Contains z s) (sym e) (mem-tail s t ts m))
-
-pub atoms-more : (q : Query) (t : Placed) (ts : List Placed) → t.atom < length q.atoms → AreRowsOfAtoms q ts → AreRowsOfAtoms q (t ∷ ts)
-atoms-more q t ts l h s m = elim (mem-cases s t ts m) [ inl e ↦ subst (λ z. z.atom < length q.atoms) e l | inr n ↦ h s n ]
 
 module _ (q : Query) (F : ℕ) (x : List Value) (taken : List Placed) (t : Placed) (ts : List Placed) (e : taken ≡ t ∷ ts) where
   pub agrees-more : (a : Bool) → (a ≡ true) ↔ AgreesAll q F x ts → AgreesInFirst q F x t.atom t.row (atom_at q F).width → (a ≡ true) ↔ AgreesAll q F x taken

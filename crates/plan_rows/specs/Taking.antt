@@ -1,5 +1,5 @@
 -- The rows that were taken so far.
-use Rattle.std.specs.Prelude.{◌≡◌, ℕ, ◌<◌, ◌==◌, if◌then◌else◌, List, [], ◌∷◌, length, slice_index_or, Contains}
+use Rattle.std.specs.Prelude.{◌≡◌, ℕ, ◌<◌, ◌==◌, if◌then◌else◌, List, [], ◌∷◌, slice_index_or, Contains}
 use Rattle.cqa_value.specs.declared.value.Value.{Value}
 use Rattle.cqa_model.specs.declared.query.ColRef.{ColRef}
 use Rattle.cqa_model.specs.declared.query.Query.{Query}
@@ -17,10 +17,6 @@ placed (Before' atom row p before) = record { atom = atom; row = row.now } ∷ p
 abbrev pub taken_value : List Placed → ColRef → Value
 taken_value [] c = nothing
 taken_value (t ∷ ts) c = if t.atom == c.atom then slice_index_or t.row c.col nothing else taken_value ts c
-
--- the rows are of atoms of the query
-abbrev pub AreRowsOfAtoms : Query → List Placed → Type 0
-AreRowsOfAtoms q taken = (t : Placed) → Contains taken t → t.atom < length q.atoms
 
 -- rows of one atom agree in its columns
 abbrev pub AreAgreed : Query → List Placed → Type 0

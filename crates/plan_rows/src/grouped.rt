@@ -13,17 +13,15 @@ use crate::setting::Setting;
 use crate::shared::is_linked_to;
 use cqa_model::{ColRef, MOST_ATOMS};
 use cqa_value::{Items, NoMemory};
-use join_access::width_of;
 use key_closure::AtomSet;
+use table_blocks::Bound;
 
 /// Whether two atoms have columns that are linked.
-fn are_joined(setting: &Setting<'_>, atom: u32, other: u32) -> bool
-    requires atom { atom < length setting.now.bound.now.query.now.atoms }
-    requires other { other < length setting.now.bound.now.query.now.atoms }
-    ensures { IsFalse result → AreUnlinked setting.now.bound.now.query.now atom other }
+fn are_joined(bound: &Bound<'_>, atom: u32, other: u32) -> bool
+    ensures { IsFalse result → AreUnlinked bound.now.query.now atom other }
 {
-    for col in 0..width_of(setting.bound.query, other) {
-        if is_linked_to(setting, atom, ColRef { atom: other, col }) {
+    for col in 0..bound.width_of(other) {
+        if is_linked_to(bound, atom, ColRef { atom: other, col }) {
             return true;
         }
     }
@@ -31,12 +29,11 @@ fn are_joined(setting: &Setting<'_>, atom: u32, other: u32) -> bool
 }
 
 /// Whether an atom is joined to one of a group.
-fn is_joined(setting: &Setting<'_>, group: &AtomSet, atom: u32) -> bool
-    requires { atom < length setting.now.bound.now.query.now.atoms }
-    ensures { IsFalse result → (F : ℕ) → F < length setting.now.bound.now.query.now.atoms → HasAtom group.now F → AreUnlinked setting.now.bound.now.query.now F atom }
+fn is_joined(bound: &Bound<'_>, group: &AtomSet, atom: u32) -> bool
+    ensures { IsFalse result → (F : ℕ) → F < length bound.now.query.now.atoms → HasAtom group.now F → AreUnlinked bound.now.query.now F atom }
 {
-    for other in 0..setting.bound.query.atoms.len() as u32 {
-        if group.has(other) && are_joined(setting, other, atom) {
+    for other in 0..bound.query.atoms.len() as u32 {
+        if group.has(other) && are_joined(bound, other, atom) {
             return true;
         }
     }
@@ -49,7 +46,7 @@ fn next_joined(setting: &Setting<'_>, group: &AtomSet, atoms: &[u32]) -> Option<
     ensures { MatchOption result (IsClosed setting.now.bound.now.query.now group.now atoms.now) (λ F. F < length setting.now.bound.now.query.now.atoms) }
 {
     for atom in atoms {
-        if !group.has(*atom) && is_joined(setting, group, *atom) {
+        if !group.has(*atom) && is_joined(setting.bound, group, *atom) {
             return Some(*atom);
         }
     }

@@ -8,18 +8,18 @@ ghost use Rattle.cqa_model.specs.Shape.{IsInRange};
 ghost use Rattle.cqa_model.specs.Query.{atom_at};
 ghost use Rattle.cqa_model.specs.Plan.{TestHolds};
 ghost use Rattle.row_order.specs.Spans.{first_key};
-ghost use Rattle.plan_rows.specs.Taking.{placed, AreRowsOfAtoms};
+ghost use Rattle.plan_rows.specs.Taking.{placed};
 ghost use Rattle.plan_rows.specs.Fitting.{ColumnAgrees, AgreesAll, GivesAt};
 ghost use Rattle.plan_rows.specs.Knowing.{MayFit};
 ghost use Rattle.plan_rows.specs.Over.{look_query, look_taken};
 
 use crate::look::Look;
-use crate::setting::Setting;
+use crate::shared::are_linked;
 use crate::taken_rows::Taken;
 use cqa_model::{ColRef, Cond, MOST_COLUMNS, Op, Query};
 use cqa_value::{Row, Value};
-use join_access::width_of;
 use row_order::{Probe, cell};
+use table_blocks::Bound;
 
 /// The value that a test tells of a column.
 fn told_by(cond: &Cond, column: ColRef) -> Option<&Value>
@@ -48,22 +48,16 @@ fn told(conds: &[Cond], column: ColRef) -> Option<&Value>
 }
 
 /// The value that a row of an atom tells of a column: that of its own column which is linked to it.
-fn told_by_row<'b>(
-    setting: &Setting<'_>,
-    other: u32,
-    row: &'b Row,
-    column: ColRef,
-) -> Option<&'b Value>
-    requires column { IsInRange setting.now.bound.now.query.now.atoms column }
-    requires other { other < length setting.now.bound.now.query.now.atoms }
-    ensures { IfSome result (λ value. (y : List Cell) → ColumnAgrees setting.now.bound.now.query.now y column row.now other (atom_at setting.now.bound.now.query.now other).width → slice_index_or y column.col nothing ≡ value.now) }
+fn told_by_row<'b>(bound: &Bound<'_>, other: u32, row: &'b Row, column: ColRef) -> Option<&'b Value>
+    requires { IsInRange bound.now.query.now.atoms column }
+    ensures { IfSome result (λ value. (y : List Cell) → ColumnAgrees bound.now.query.now y column row.now other (atom_at bound.now.query.now other).width → slice_index_or y column.col nothing ≡ value.now) }
 {
-    for j in 0..width_of(setting.bound.query, other) {
+    for j in 0..bound.width_of(other) {
         let linked_column = ColRef {
             atom: other,
             col: j,
         };
-        if setting.are_linked(column, linked_column) {
+        if are_linked(bound, column, linked_column) {
             return cell(row, j);
         }
     }
@@ -71,16 +65,15 @@ fn told_by_row<'b>(
 }
 
 /// The value that some row taken tells of a column.
-fn told_by_taken<'b>(setting: &Setting<'_>, taken: &Taken<'b>, column: ColRef) -> Option<&'b Value>
-    requires column { IsInRange setting.now.bound.now.query.now.atoms column }
-    requires taken { AreRowsOfAtoms setting.now.bound.now.query.now (placed taken.now) }
-    ensures { IfSome result (λ value. (y : List Cell) → AgreesAll setting.now.bound.now.query.now column.atom y (placed taken.now) → slice_index_or y column.col nothing ≡ value.now) }
+fn told_by_taken<'b>(bound: &Bound<'_>, taken: &Taken<'b>, column: ColRef) -> Option<&'b Value>
+    requires { IsInRange bound.now.query.now.atoms column }
+    ensures { IfSome result (λ value. (y : List Cell) → AgreesAll bound.now.query.now column.atom y (placed taken.now) → slice_index_or y column.col nothing ≡ value.now) }
 {
     match taken {
         Taken::Nothing => None,
-        Taken::Before(other, row, before) => match told_by_row(setting, *other, row, column) {
+        Taken::Before(other, row, before) => match told_by_row(bound, *other, row, column) {
             Some(value) => Some(value),
-            None => told_by_taken(setting, before, column),
+            None => told_by_taken(bound, before, column),
         },
     }
 }
@@ -103,19 +96,19 @@ fn known<'b>(look: &Look<'b>, row: Option<&'b Row>, col: u32) -> Option<&'b Valu
     requires { col < (atom_at (look_query look.now) look.now.atom).width }
     ensures { IfSome result (λ value. (y : List Cell) → MayFit (look_query look.now) (option_copied row.entry) (look_taken look.now) look.now.atom y → slice_index_or y col nothing ≡ value.now) }
 {
-    let setting = look.setting;
+    let bound = look.setting.bound;
     let column = ColRef {
         atom: look.atom,
         col,
     };
-    if let Some(value) = told(setting.bound.query.conds.as_slice(), column) {
+    if let Some(value) = told(bound.query.conds.as_slice(), column) {
         return Some(value);
     }
-    if let Some(value) = told_by_taken(setting, look.taken, column) {
+    if let Some(value) = told_by_taken(bound, look.taken, column) {
         return Some(value);
     }
     match row {
-        Some(row) => told_by_answer(setting.bound.query, row, column),
+        Some(row) => told_by_answer(bound.query, row, column),
         None => None,
     }
 }
@@ -126,7 +119,7 @@ pub fn known_values<'b>(look: &Look<'b>, row: Option<&'b Row>, columns: &[u32]) 
     ensures known { (y : List Cell) → MayFit (look_query look.now) (option_copied row.entry) (look_taken look.now) look.now.atom y → first_key columns.now result y ≡ result }
 {
     let setting = look.setting;
-    let width = width_of(setting.bound.query, look.atom);
+    let width = setting.bound.width_of(look.atom);
     let mut probe = Probe::new(setting.alloc);
     for col in columns {
         if *col >= width || probe.len() == MOST_COLUMNS {

@@ -26,7 +26,7 @@ pub use known::known_values;
 pub use links::Link;
 pub use look::Look;
 pub use memo::{Candidates, Memo};
-pub use places::{Places, key_columns};
+pub use places::Places;
 pub use reached::reached_places;
 pub use setting::Setting;
 pub use settled::are_settled;

@@ -1,9 +1,8 @@
 //! Where rows of an atom are looked for that may fit: among those with the key values that are known, along an index, or at
 //! the places to which rows of later atoms lead.
 
-ghost use Rattle.std.specs.Prelude.{◌≡◌, ◌<◌, ◌≤◌, [], IfSome, length};
+ghost use Rattle.std.specs.Prelude.{◌≡◌, ◌<◌, ◌≤◌, [], IfSome};
 ghost use Rattle.std.specs.Option.{option_copied};
-ghost use Rattle.cqa_model.specs.Query.{atom_key};
 ghost use Rattle.plan_rows.specs.Over.{look_query, look_tables, look_taken, look_rows};
 ghost use Rattle.plan_rows.specs.Wanted.{IsOfSize, size_once};
 
@@ -12,9 +11,8 @@ use crate::links::Link;
 use crate::look::Look;
 use crate::reached::reached_places;
 use crate::wanted::Wanted;
-use cqa_model::Query;
 use cqa_value::Row;
-use join_access::{RowIndex, table_of};
+use join_access::RowIndex;
 
 /// The places from one to another, and by what rows are looked for among them.
 #[derive(Drop)]
@@ -25,14 +23,6 @@ pub struct Places<'x> {
     ghost sized: { IsOfSize wanted end } by { size_once wanted end },
 }
 
-/// The places of an atom's key columns.
-pub fn key_columns(query: &Query, atom: u32) -> &[u32]
-    requires { atom < length query.now.atoms }
-    ensures { result.now ≡ atom_key query.now atom }
-{
-    query.atoms.as_slice()[atom as usize].key.as_slice()
-}
-
 impl<'x> Places<'x> {
     ghost use Rattle.plan_rows.specs.Links.{AreLinks, atoms_on};
     ghost use Rattle.plan_rows.specs.Places.{AreThere, IsRowPassed};
@@ -41,10 +31,9 @@ impl<'x> Places<'x> {
     fn by_key(look: &Look<'x>, row: Option<&'x Row>) -> Places<'x>
         ensures { AreThere (look_query look.now) (look_tables look.now) (option_copied row.entry) (look_taken look.now) [] look.now.atom (look_rows look.now) result }
     {
-        let setting = look.setting;
-        let values = known_values(look, row, key_columns(setting.bound.query, look.atom));
-        let table = table_of(setting.bound.query, look.atom);
-        let (start, rows) = setting.bound.db.rows_with(table, &values);
+        let bound = look.setting.bound;
+        let values = known_values(look, row, bound.key_of(look.atom));
+        let (start, rows) = bound.rows_with(look.atom, &values);
         Places {
             start: start as usize,
             end: start as usize + rows.len(),
@@ -98,14 +87,10 @@ impl<'x> Places<'x> {
         if links.is_empty() {
             return None;
         }
-        let setting = look.setting;
+        let bound = look.setting.bound;
         let places = reached_places(look, row, path, links)?;
         let wanted = Wanted::Listed(places);
-        let end = setting
-            .bound
-            .db
-            .rows(table_of(setting.bound.query, look.atom))
-            .len();
+        let end = bound.rows_of(look.atom).len();
         Some(Places {
             start: wanted.first(end),
             end,

@@ -18,7 +18,7 @@ use crate::place_set::PlaceSet;
 use crate::places::Places;
 use crate::taken_rows::Taken;
 use cqa_value::{NoMemory, Row};
-use join_access::{RowIndex, table_of};
+use join_access::RowIndex;
 
 /// Adds a place of an atom's rows if the row there may fit the rows taken.
 fn add_place(
@@ -48,11 +48,8 @@ fn add_places(
     ensures kept { OnOk result ((p : ℕ) → Contains found.old p → Contains found.new p) }
     ensures added { OnOk result (HasReached (look_query look.now) (look_tables look.now) (option_copied row.entry) (look_taken look.now) [] look.now.atom found.new) }
 {
-    let setting = look.setting;
-    let rows = setting
-        .bound
-        .db
-        .rows(table_of(setting.bound.query, look.atom));
+    let bound = look.setting.bound;
+    let rows = bound.rows_of(look.atom);
     let mut at = places.start;
     while at < places.end {
         add_place(look, row, at as u32, rows.get(at), found)?;
@@ -124,8 +121,8 @@ fn add_guesses<'x>(
     ensures kept { OnOk result ((p : ℕ) → Contains found.old p → Contains found.new p) }
     ensures added { OnOk result (HasReached (look_query look.now) (look_tables look.now) (option_copied row.entry) (look_taken look.now) (atom ∷ atoms_on later.now) look.now.atom found.new) }
 {
-    let setting = look.setting;
-    let rows = setting.bound.db.rows(table_of(setting.bound.query, atom));
+    let bound = look.setting.bound;
+    let rows = bound.rows_of(atom);
     let mut place = places.start;
     while place < places.end {
         add_guess(look, row, path, atom, rows.get(place), later, found)?;

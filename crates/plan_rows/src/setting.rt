@@ -3,8 +3,7 @@
 ghost use Rattle.std.specs.Prelude.{◌≡◌, ◌<◌, IfSome, Some, None, length, slice_index_or};
 ghost use Rattle.join_access.specs.Spots.{ArePaths};
 
-use cqa_model::ColRef;
-use join_access::{RowIndex, are_linked};
+use join_access::RowIndex;
 use std::alloc::Global;
 use table_blocks::Bound;
 
@@ -30,20 +29,8 @@ fn path_of<'a>(paths: &'a [Option<RowIndex<'a>>], atom: usize) -> Option<&'a Row
 }
 
 impl<'a> Setting<'a> {
-    ghost use Rattle.std.specs.Prelude.{◌↔◌, IsTrue};
-    ghost use Rattle.cqa_model.specs.Shape.{IsInRange};
     ghost use Rattle.cqa_model.specs.Database.{stored};
     ghost use Rattle.cqa_model.specs.Query.{rows_of};
-    ghost use Rattle.cqa_model.specs.Variables.{AreLinked};
-
-    /// Whether two columns of the query are of one variable.
-    pub fn are_linked(&self, a: ColRef, b: ColRef) -> bool
-        requires a { IsInRange self.now.bound.now.query.now.atoms a }
-        requires b { IsInRange self.now.bound.now.query.now.atoms b }
-        ensures { IsTrue result ↔ AreLinked self.now.bound.now.query.now a b }
-    {
-        are_linked(self.bound.query, &self.bound.variables, a, b)
-    }
 
     /// The index of an atom's table, if there is one.
     pub fn index_of(&self, atom: u32) -> Option<&'a RowIndex<'a>>

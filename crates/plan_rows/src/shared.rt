@@ -1,25 +1,33 @@
 //! The columns by which the rests of a plan depend on the rows taken before: those linked to columns of a rest.
 
-ghost use Rattle.std.specs.Prelude.{◌<◌, ◌↔◌, ℕ, IfOk, OnOk, IsTrue, Contains, length};
+ghost use Rattle.std.specs.Prelude.{◌<◌, ◌↔◌, ℕ, IfOk, OnOk, IsTrue, Contains};
 ghost use Rattle.cqa_model.specs.declared.query.ColRef.{ColRef as Column};
 ghost use Rattle.cqa_model.specs.Shape.{IsInRange};
 ghost use Rattle.cqa_model.specs.Query.{atom_at};
 ghost use Rattle.cqa_model.specs.Variables.{AreLinked};
-ghost use Rattle.plan_rows.specs.Left.{AreQueryAtoms, IsTold, HasShared, AreSharedInParts};
+ghost use Rattle.plan_rows.specs.Left.{IsTold, HasShared, AreSharedInParts};
 
 use crate::setting::Setting;
 use cqa_model::ColRef;
 use cqa_value::{Items, NoMemory};
-use join_access::width_of;
+use table_blocks::Bound;
+
+/// Whether two columns of a query are of one variable.
+pub(crate) fn are_linked(bound: &Bound<'_>, a: ColRef, b: ColRef) -> bool
+    requires a { IsInRange bound.now.query.now.atoms a }
+    requires b { IsInRange bound.now.query.now.atoms b }
+    ensures { IsTrue result ↔ AreLinked bound.now.query.now a b }
+{
+    join_access::are_linked(bound.query, &bound.variables, a, b)
+}
 
 /// Whether an atom has a column that is linked to this one.
-pub(crate) fn is_linked_to(setting: &Setting<'_>, atom: u32, column: ColRef) -> bool
-    requires atom { atom < length setting.now.bound.now.query.now.atoms }
-    requires column { IsInRange setting.now.bound.now.query.now.atoms column }
-    ensures { IsTrue result ↔ (i : ℕ) × (i < (atom_at setting.now.bound.now.query.now atom).width) × AreLinked setting.now.bound.now.query.now (record { atom = atom; col = i }) column }
+pub(crate) fn is_linked_to(bound: &Bound<'_>, atom: u32, column: ColRef) -> bool
+    requires { IsInRange bound.now.query.now.atoms column }
+    ensures { IsTrue result ↔ (i : ℕ) × (i < (atom_at bound.now.query.now atom).width) × AreLinked bound.now.query.now (record { atom = atom; col = i }) column }
 {
-    for col in 0..width_of(setting.bound.query, atom) {
-        if setting.are_linked(ColRef { atom, col }, column) {
+    for col in 0..bound.width_of(atom) {
+        if are_linked(bound, ColRef { atom, col }, column) {
             return true;
         }
     }
@@ -27,13 +35,12 @@ pub(crate) fn is_linked_to(setting: &Setting<'_>, atom: u32, column: ColRef) -> 
 }
 
 /// Whether one of these atoms has a column that is linked to this one.
-pub fn is_told(setting: &Setting<'_>, atoms: &[u32], column: ColRef) -> bool
-    requires atoms { AreQueryAtoms setting.now.bound.now.query.now atoms.now }
-    requires column { IsInRange setting.now.bound.now.query.now.atoms column }
-    ensures { IsTrue result ↔ IsTold setting.now.bound.now.query.now atoms.now column }
+pub fn is_told(bound: &Bound<'_>, atoms: &[u32], column: ColRef) -> bool
+    requires { IsInRange bound.now.query.now.atoms column }
+    ensures { IsTrue result ↔ IsTold bound.now.query.now atoms.now column }
 {
     for atom in atoms {
-        if is_linked_to(setting, *atom, column) {
+        if is_linked_to(bound, *atom, column) {
             return true;
         }
     }
@@ -42,17 +49,16 @@ pub fn is_told(setting: &Setting<'_>, atoms: &[u32], column: ColRef) -> bool
 
 /// Adds a column if it is linked to columns of others.
 fn add_column(
-    setting: &Setting<'_>,
+    bound: &Bound<'_>,
     column: ColRef,
     others: &[u32],
     columns: &mut Vec<ColRef>,
 ) -> Result<(), NoMemory>
-    requires column { IsInRange setting.now.bound.now.query.now.atoms column }
-    requires others { AreQueryAtoms setting.now.bound.now.query.now others.now }
+    requires { IsInRange bound.now.query.now.atoms column }
     ensures kept { OnOk result ((c : Column) → Contains columns.old.items c → Contains columns.new.items c) }
-    ensures added { OnOk result (IsTold setting.now.bound.now.query.now others.now column → Contains columns.new.items column) }
+    ensures added { OnOk result (IsTold bound.now.query.now others.now column → Contains columns.new.items column) }
 {
-    if !is_told(setting, others, column) {
+    if !is_told(bound, others, column) {
         return Ok(());
     }
     columns.push(column)?;
@@ -61,31 +67,27 @@ fn add_column(
 
 /// Adds those columns of an atom that are linked to columns of others.
 fn add_shared(
-    setting: &Setting<'_>,
+    bound: &Bound<'_>,
     atom: u32,
     others: &[u32],
     columns: &mut Vec<ColRef>,
 ) -> Result<(), NoMemory>
-    requires atom { atom < length setting.now.bound.now.query.now.atoms }
-    requires others { AreQueryAtoms setting.now.bound.now.query.now others.now }
     ensures kept { OnOk result ((c : Column) → Contains columns.old.items c → Contains columns.new.items c) }
-    ensures added { OnOk result ((j : ℕ) → j < (atom_at setting.now.bound.now.query.now atom).width → IsTold setting.now.bound.now.query.now others.now (record { atom = atom; col = j }) → Contains columns.new.items (record { atom = atom; col = j })) }
+    ensures added { OnOk result ((j : ℕ) → j < (atom_at bound.now.query.now atom).width → IsTold bound.now.query.now others.now (record { atom = atom; col = j }) → Contains columns.new.items (record { atom = atom; col = j })) }
 {
-    for col in 0..width_of(setting.bound.query, atom) {
-        add_column(setting, ColRef { atom, col }, others, columns)?;
+    for col in 0..bound.width_of(atom) {
+        add_column(bound, ColRef { atom, col }, others, columns)?;
     }
     Ok(())
 }
 
 /// The columns of atoms that are linked to columns of others.
 fn shared_of(setting: &Setting<'_>, front: &[u32], rest: &[u32]) -> Result<Items<ColRef>, NoMemory>
-    requires front { AreQueryAtoms setting.now.bound.now.query.now front.now }
-    requires rest { AreQueryAtoms setting.now.bound.now.query.now rest.now }
     ensures { IfOk result (HasShared setting.now.bound.now.query.now front.now rest.now) }
 {
     let mut columns = Vec::new(setting.alloc);
     for atom in front {
-        add_shared(setting, *atom, rest, &mut columns)?;
+        add_shared(setting.bound, *atom, rest, &mut columns)?;
     }
     Ok(Items::from_vec(columns))
 }
@@ -96,7 +98,6 @@ fn shared_of(setting: &Setting<'_>, front: &[u32], rest: &[u32]) -> Result<Items
 ///
 /// `NoMemory` where memory is refused.
 pub fn shared_columns(setting: &Setting<'_>, order: &[u32]) -> Result<Vec<Items<ColRef>>, NoMemory>
-    requires { AreQueryAtoms setting.now.bound.now.query.now order.now }
     ensures { IfOk result (λ shared. AreSharedInParts setting.now.bound.now.query.now order.now shared.items) }
 {
     let mut shared = Vec::new(setting.alloc);
@@ -109,7 +110,6 @@ pub fn shared_columns(setting: &Setting<'_>, order: &[u32]) -> Result<Vec<Items<
 
 /// The same lists, or none where memory is refused.
 pub fn shared_or_none(setting: &Setting<'_>, order: &[u32]) -> Vec<Items<ColRef>>
-    requires { AreQueryAtoms setting.now.bound.now.query.now order.now }
     ensures { AreSharedInParts setting.now.bound.now.query.now order.now result.items }
 {
     match shared_columns(setting, order) {

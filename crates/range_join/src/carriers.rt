@@ -101,10 +101,9 @@ pub(crate) fn carriers<'a>(
     ensures size { IfOk result (λ bests. length bests.items ≡ length (rows_of found.now.bound.now.query.now (stored found.now.bound.now.db.now) look.lax)) }
     ensures best { IfOk result (λ bests. AreBest look.way (GivesValue (rows_of found.now.bound.now.query.now (stored found.now.bound.now.db.now) look.atom) (names_of found.now.list) look.lax look.atom look.col) (length bests.items) (best_at look.col bests.items)) }
 {
-    let db = found.bound.db;
-    let atoms = found.bound.query.atoms.as_slice();
-    let rows = db.rows(atoms[look.atom as usize].table);
-    let count = db.rows(atoms[look.lax as usize].table).len();
+    let bound = found.bound;
+    let rows = bound.rows_of(look.atom);
+    let count = bound.rows_of(look.lax).len();
     let mut bests = vec![in alloc; None; count]?;
     for witness in found.list.as_slice() {
         let place = place_of(witness, look.lax as usize);

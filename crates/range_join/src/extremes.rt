@@ -8,7 +8,6 @@ ghost use Rattle.range_join.specs.Worths.{AreOthersStrict};
 use crate::carriers::Look;
 use crate::names::both_named;
 use crate::peaks::{Peaks, find_peaks};
-use crate::sums::table_of;
 use cqa_value::NoMemory;
 use range_ask::Range;
 use row_witnesses::RowWitnesses;
@@ -50,5 +49,5 @@ pub(crate) fn extreme_range(
     ensures { IfOk result (IsJoinRange found.now.bound.now.db.now found.now.bound.now.query.now look.lax (sought_by look)) }
 {
     let peaks = find_peaks(alloc, found, look)?;
-    range_of(alloc, table_of(found.bound.query, look.lax), peaks)
+    range_of(alloc, found.bound.table_of(look.lax), peaks)
 }

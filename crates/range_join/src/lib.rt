@@ -23,4 +23,3 @@ pub use gains::{gain, row_of};
 pub use range::{join_range, look};
 pub use sought::Sought;
 pub use spans::Span;
-pub use sums::table_of;

@@ -248,7 +248,7 @@ pub(crate) fn find_peaks(
 {
     let bests = carriers(alloc, found, look)?;
     let db = found.bound.db;
-    let table = found.bound.query.atoms.as_slice()[look.lax as usize].table;
+    let table = found.bound.table_of(look.lax);
     match look.way {
         Extreme::Least => least_peaks(alloc, db, table, look.col, &bests),
         Extreme::Greatest => greatest_peaks(alloc, db, table, look.col, &bests),

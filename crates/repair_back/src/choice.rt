@@ -1,9 +1,8 @@
 //! What is kept of a table: of each block one row, as a flag for each row.
 
-ghost use Rattle.std.specs.Prelude.{◌≡◌, ◌<◌, ◌≤◌, ◌≢◌, ◌⊎◌, ◌↔◌, ℕ, true, false, [], IfOk, IsTrue, length, slice_index_or, replicate};
+ghost use Rattle.std.specs.Prelude.{◌≡◌, ◌<◌, ◌≤◌, ◌≢◌, ◌⊎◌, ◌↔◌, ℕ, true, false, IfOk, length, slice_index_or, replicate};
 ghost use Rattle.std.specs.List.Sorted.{IsStrictlySortedBy};
 ghost use Rattle.cqa_model.specs.Database.{block_cmp};
-ghost use Rattle.cqa_model.specs.Repairs.{SharesKey};
 ghost use Rattle.repair_back.specs.Flags.{IsFlagged, HasOneFlagEach};
 ghost use Rattle.cqa_model.specs.Blocks.{IsPick};
 

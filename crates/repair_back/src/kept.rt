@@ -29,8 +29,7 @@ fn add_blank(
     tables: &[u32],
     kept: &mut Vec<Choice>,
 ) -> Result<(), NoMemory>
-    requires tables { AreTablesOf db.now tables.now }
-    requires none { kept.old.items ≡ [] }
+    requires { kept.old.items ≡ [] }
     ensures { OnOk result (AreBlank db.now tables.now kept.new.items) }
 {
     for table in 0..db.count() {
@@ -45,7 +44,6 @@ fn add_blank(
 ///
 /// `NoMemory` where memory is refused.
 pub(crate) fn blank(alloc: Global, db: &Database, tables: &[u32]) -> Result<Vec<Choice>, NoMemory>
-    requires { AreTablesOf db.now tables.now }
     ensures { IfOk result (λ kept. AreBlank db.now tables.now kept.items) }
 {
     let mut kept = Vec::new(alloc);

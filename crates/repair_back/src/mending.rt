@@ -6,7 +6,7 @@
 //! of the rows taken have all variables that the rest of the plan shares with any, no witness has these, once none has all
 //! of them: then no other row is tried in place of the later ones.
 
-ghost use Rattle.std.specs.Prelude.{◌≡◌, ◌≢◌, ◌⊎◌, ℕ, ◌<◌, ◌≤◌, ◌↔◌, ◌∷◌, [], false, IfOk, IfSome, IsNone, IsSome, IsTrue, length, slice_index_or, Contains};
+ghost use Rattle.std.specs.Prelude.{◌≡◌, ◌≢◌, ◌⊎◌, ℕ, ◌<◌, ◌≤◌, ◌↔◌, ◌∷◌, [], false, IfOk, IfSome, IsNone, IsTrue, length, slice_index_or, Contains};
 ghost use Rattle.cqa_model.specs.Database.{stored};
 ghost use Rattle.cqa_model.specs.Query.{atom_at, atom_key, rows_of};
 ghost use Rattle.cqa_model.specs.Certain.{IsCertain};
@@ -29,10 +29,9 @@ use crate::repair::{Repair, named};
 use crate::way::{Way, enough_for, enough_of};
 use cqa_model::Plan;
 use cqa_value::{Items, NoMemory, Row};
-use join_access::{RowIndex, table_of};
+use join_access::RowIndex;
 use plan_rows::{
-    Candidates, Course, Link, Look, Memo, Places, Rest, Setting, Step, Taken, fits, key_columns,
-    shared_or_none,
+    Candidates, Course, Link, Look, Memo, Places, Rest, Setting, Step, Taken, fits, shared_or_none,
 };
 use row_pieces::Rows;
 use std::alloc::Global;
@@ -47,7 +46,7 @@ fn kept_of(setting: &Setting<'_>, atom: u32, start: usize, end: usize, kept: &[C
     ensures before { result < end }
     ensures kept { IsFlagged (flags_of setting.now.bound.now.query.now kept.now atom) result }
 {
-    kept[table_of(setting.bound.query, atom) as usize].kept_in(start, end)
+    kept[setting.bound.table_of(atom) as usize].kept_in(start, end)
 }
 
 /// Keeps another row of an atom's table.
@@ -60,7 +59,7 @@ fn keep(setting: &Setting<'_>, atom: u32, kept: &mut [Choice], out: usize, into:
     ensures is { (p : ℕ) → IsFlagged (flags_of setting.now.bound.now.query.now kept.new atom) p ↔ ((p ≡ into) ⊎ (IsFlagged (flags_of setting.now.bound.now.query.now kept.old atom) p × (p ≢ out))) }
     ensures others { (t : ℕ) → t ≢ (atom_at setting.now.bound.now.query.now atom).table → slice_index_or kept.new t [] ≡ slice_index_or kept.old t [] }
 {
-    kept[table_of(setting.bound.query, atom) as usize].exchange(out, into);
+    kept[setting.bound.table_of(atom) as usize].exchange(out, into);
 }
 
 /// Mends what is kept until no witness has the rows taken: how many of the first ones are enough for that; `None` where
@@ -205,9 +204,9 @@ fn mend_places<'x>(
     ensures mends { Mends way.now (placed taken.now) (atom ∷ rest.now) kept.old kept.new result }
 {
     let course = way.course;
-    let setting = &course.setting;
-    let rows = setting.bound.db.rows(table_of(setting.bound.query, atom));
-    let key = key_columns(setting.bound.query, atom);
+    let bound = course.setting.bound;
+    let rows = bound.rows_of(atom);
+    let key = bound.key_of(atom);
     let before = course.order.len() - rest.len() - 1;
     let mut at = places.start;
     let mut done = 0;

@@ -2,13 +2,12 @@
 
 ghost use Rattle.std.specs.Prelude.{◌≡◌, ◌<◌, ◌≤◌, ℕ, IfOk, IsFalse, length, slice_index_or, take, drop};
 ghost use Rattle.cqa_model.specs.Shape.{IsInRange};
-ghost use Rattle.plan_rows.specs.Left.{AreQueryAtoms};
 ghost use Rattle.repair_back.specs.Apart.{BringsNone, IsAtomApart, ArePartsApart, AreEnough};
 
 use cqa_model::ColRef;
 use cqa_value::{NoMemory, Row};
-use join_access::width_of;
 use plan_rows::{Course, Setting, is_told};
+use table_blocks::Bound;
 
 /// A plan that is gone over, the row that no witness is to give, and for each number of first atoms how many of them are
 /// enough for the others: what those between share with these, the first ones share too.
@@ -22,27 +21,22 @@ pub(crate) struct Way<'a> {
 }
 
 /// Whether a column is linked to one of the rest's, and to none of the atoms before.
-fn brings_column(setting: &Setting<'_>, before: &[u32], column: ColRef, rest: &[u32]) -> bool
-    requires before { AreQueryAtoms setting.now.bound.now.query.now before.now }
-    requires column { IsInRange setting.now.bound.now.query.now.atoms column }
-    requires rest { AreQueryAtoms setting.now.bound.now.query.now rest.now }
-    ensures { IsFalse result → BringsNone setting.now.bound.now.query.now before.now column rest.now }
+fn brings_column(bound: &Bound<'_>, before: &[u32], column: ColRef, rest: &[u32]) -> bool
+    requires { IsInRange bound.now.query.now.atoms column }
+    ensures { IsFalse result → BringsNone bound.now.query.now before.now column rest.now }
 {
-    if !is_told(setting, rest, column) {
+    if !is_told(bound, rest, column) {
         return false;
     }
-    !is_told(setting, before, column)
+    !is_told(bound, before, column)
 }
 
 /// Whether an atom has such a column.
-fn brings(setting: &Setting<'_>, before: &[u32], atom: u32, rest: &[u32]) -> bool
-    requires before { AreQueryAtoms setting.now.bound.now.query.now before.now }
-    requires atom { atom < length setting.now.bound.now.query.now.atoms }
-    requires rest { AreQueryAtoms setting.now.bound.now.query.now rest.now }
-    ensures { IsFalse result → IsAtomApart setting.now.bound.now.query.now before.now atom rest.now }
+fn brings(bound: &Bound<'_>, before: &[u32], atom: u32, rest: &[u32]) -> bool
+    ensures { IsFalse result → IsAtomApart bound.now.query.now before.now atom rest.now }
 {
-    for col in 0..width_of(setting.bound.query, atom) {
-        if brings_column(setting, before, ColRef { atom, col }, rest) {
+    for col in 0..bound.width_of(atom) {
+        if brings_column(bound, before, ColRef { atom, col }, rest) {
             return true;
         }
     }
@@ -50,16 +44,15 @@ fn brings(setting: &Setting<'_>, before: &[u32], atom: u32, rest: &[u32]) -> boo
 }
 
 /// How many first atoms of an order are enough for those from a place on.
-fn enough_at(setting: &Setting<'_>, order: &[u32], place: usize) -> usize
-    requires order { AreQueryAtoms setting.now.bound.now.query.now order.now }
-    requires place { place ≤ length order.now }
-    ensures { (k : ℕ) → result ≤ k → k < place → IsAtomApart setting.now.bound.now.query.now (take k order.now) (slice_index_or order.now k 0) (drop place order.now) }
+fn enough_at(bound: &Bound<'_>, order: &[u32], place: usize) -> usize
+    requires { place ≤ length order.now }
+    ensures { (k : ℕ) → result ≤ k → k < place → IsAtomApart bound.now.query.now (take k order.now) (slice_index_or order.now k 0) (drop place order.now) }
 {
     let (_, rest) = order.split_at(place);
     let mut enough = place;
     while enough > 0 {
         let (before, _) = order.split_at(enough - 1);
-        if brings(setting, before, order[enough - 1], rest) {
+        if brings(bound, before, order[enough - 1], rest) {
             return enough;
         }
         enough -= 1;
@@ -73,12 +66,11 @@ fn enough_at(setting: &Setting<'_>, order: &[u32], place: usize) -> usize
 ///
 /// `NoMemory` where memory is refused.
 pub(crate) fn enough_of(setting: &Setting<'_>, order: &[u32]) -> Result<Vec<usize>, NoMemory>
-    requires { AreQueryAtoms setting.now.bound.now.query.now order.now }
     ensures { IfOk result (λ enough. AreEnough setting.now.bound.now.query.now order.now enough.items) }
 {
     let mut enough = Vec::new(setting.alloc);
     for place in 0..order.len() {
-        enough.push(enough_at(setting, order, place))?;
+        enough.push(enough_at(setting.bound, order, place))?;
     }
     Ok(enough)
 }

@@ -32,8 +32,7 @@ fn add_head(
     row: &Row,
     draft: &mut Draft,
 ) -> Result<(), Fail<TooLong>>
-    requires plan { AreQueryAtoms bound.now.query.now plan.now }
-    requires between { IsBetween draft.old }
+    requires { IsBetween draft.old }
     ensures ok { OnOk result (AddsStatements (certificate_head bound.now.db.now bound.now.query.now row.now plan.now) draft.old draft.new) }
     ensures over { IfErr result (RefusesBy (IsTooLongBehind (length draft.old.out.items) (certificate_head bound.now.db.now bound.now.query.now row.now plan.now))) }
 {

@@ -5,14 +5,12 @@ ghost use Rattle.std.specs.List.{flat_map, join_by};
 ghost use Rattle.cqa_model.specs.declared.query.Atom.{Atom as AtomValue};
 ghost use Rattle.cqa_model.specs.Query.{atom_at};
 ghost use Rattle.cqa_model.specs.Shape.{IsInRange};
-ghost use Rattle.plan_rows.specs.Left.{AreQueryAtoms};
 ghost use Rattle.rewrite_text.specs.Texts.{asked_text, atom_name, condition_text, from_text, name_at, qualified_name, spaced_operator, where_text};
 ghost use Rattle.rewrite_text.specs.Drafts.{AreColumnsOf, AreConditionsOf, IsConditionOf, IsSchemaAt, Overruns, RefusesBy, Writes};
 
 use crate::draft::{Draft, TooLong};
 use cqa_model::{Atom, ColRef, Cond, Op, Schema};
 use cqa_value::{Fail, NoMemory, literal_text};
-use join_access::table_of;
 use table_blocks::{Bound, Database};
 
 /// Appends words.
@@ -25,15 +23,13 @@ pub fn append(words: &str, out: &mut Vec<u8>) -> Result<(), NoMemory>
 
 /// The schema of an atom's table.
 pub fn schema_of<'a>(bound: &Bound<'a>, atom: u32) -> &'a Schema
-    requires { atom < length bound.now.query.now.atoms }
     ensures { IsSchemaAt bound.now.db.now (atom_at bound.now.query.now atom).table result.now }
 {
-    bound.db.schema(table_of(bound.query, atom))
+    bound.db.schema(bound.table_of(atom))
 }
 
 /// Appends the name of an atom's table.
 pub fn append_atom(bound: &Bound<'_>, atom: u32, out: &mut Vec<u8>) -> Result<(), NoMemory>
-    requires { atom < length bound.now.query.now.atoms }
     ensures { OnOk result (out.new.items ≡ out.old.items ++ atom_name bound.now.db.now bound.now.query.now atom) }
 {
     append(schema_of(bound, atom).name.as_str(), out)
@@ -121,7 +117,6 @@ pub fn append_asked(
 
 /// Appends the names of atoms' tables, each behind a comma.
 fn append_more_atoms(bound: &Bound<'_>, atoms: &[u32], out: &mut Vec<u8>) -> Result<(), NoMemory>
-    requires { AreQueryAtoms bound.now.query.now atoms.now }
     ensures { OnOk result (out.new.items ≡ out.old.items ++ flat_map (λ F. codes ", " ++ atom_name bound.now.db.now bound.now.query.now F) atoms.now) }
 {
     for atom in atoms {
@@ -133,7 +128,6 @@ fn append_more_atoms(bound: &Bound<'_>, atoms: &[u32], out: &mut Vec<u8>) -> Res
 
 /// Appends the names of atoms' tables, with commas.
 pub fn append_atoms(bound: &Bound<'_>, atoms: &[u32], out: &mut Vec<u8>) -> Result<(), NoMemory>
-    requires { AreQueryAtoms bound.now.query.now atoms.now }
     ensures { OnOk result (out.new.items ≡ out.old.items ++ join_by (atom_name bound.now.db.now bound.now.query.now) (codes ", ") atoms.now) }
 {
     let Some((first, rest)) = atoms.split_first() else {

@@ -4,7 +4,6 @@ ghost use Rattle.std.specs.Prelude.{◌≡◌, ◌++◌, ◌∷◌, ◌<◌, [],
 ghost use Rattle.std.specs.List.{flat_map, join_by};
 ghost use Rattle.cqa_value.specs.Literals.{row_bytes};
 ghost use Rattle.cqa_model.specs.declared.query.Atom.{Atom as AtomValue};
-ghost use Rattle.plan_rows.specs.Left.{AreQueryAtoms};
 ghost use Rattle.rewrite_text.specs.Texts.{asked_text, certificate_block, certificate_create, certificate_creates, certificate_order, certificate_prove, from_text, atom_name};
 ghost use Rattle.rewrite_text.specs.Drafts.{AddsStatements, IsBetween, IsTooLongBehind, Overruns, RefusesBy, Writes};
 
@@ -64,8 +63,7 @@ pub fn add_prove(bound: &Bound<'_>, row: &Row, draft: &mut Draft) -> Result<(), 
 
 /// Adds the statement of the plan's order.
 pub fn add_order(bound: &Bound<'_>, plan: &[u32], draft: &mut Draft) -> Result<(), Fail<TooLong>>
-    requires plan { AreQueryAtoms bound.now.query.now plan.now }
-    requires between { IsBetween draft.old }
+    requires { IsBetween draft.old }
     ensures ok { OnOk result (AddsStatements (certificate_order bound.now.db.now bound.now.query.now plan.now ∷ []) draft.old draft.new) }
     ensures over { IfErr result (RefusesBy (IsTooLongBehind (length draft.old.out.items) (certificate_order bound.now.db.now bound.now.query.now plan.now ∷ []))) }
 {
@@ -102,7 +100,6 @@ fn append_block_rows(block: &Rows<'_>, draft: &mut Draft) -> Result<(), Fail<Too
 
 /// Appends what stands before the rows of a block.
 fn append_block_head(bound: &Bound<'_>, atom: u32, out: &mut Vec<u8>) -> Result<(), NoMemory>
-    requires { atom < length bound.now.query.now.atoms }
     ensures { OnOk result (out.new.items ≡ out.old.items ++ (codes "block " ++ atom_name bound.now.db.now bound.now.query.now atom ++ codes " values ")) }
 {
     append("block ", out)?;
@@ -117,8 +114,7 @@ pub fn add_block(
     block: &Rows<'_>,
     draft: &mut Draft,
 ) -> Result<(), Fail<TooLong>>
-    requires there { atom < length bound.now.query.now.atoms }
-    requires between { IsBetween draft.old }
+    requires { IsBetween draft.old }
     ensures ok { OnOk result (AddsStatements (certificate_block bound.now.db.now bound.now.query.now (record { atom = atom; rows = block.now }) ∷ []) draft.old draft.new) }
     ensures over { IfErr result (RefusesBy (IsTooLongBehind (length draft.old.out.items) (certificate_block bound.now.db.now bound.now.query.now (record { atom = atom; rows = block.now }) ∷ []))) }
 {

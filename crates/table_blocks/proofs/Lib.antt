@@ -11,3 +11,4 @@ pub mod Inserting
 pub mod Spanning
 pub mod Sharing
 pub mod Keeping
+pub mod Binding

@@ -1,5 +1,6 @@
 -- Rows in block order are parted by a probe.
 use Rattle.std.proofs.Common.{◌≡◌, ◌+◌, ◌<◌, ◌≤◌, ℕ, suc, zero, length, List, [], ◌∷◌, ◌++◌, Bool, true, false, refl, sym, ◌∙◌, ap, subst, arith, take, drop, get_or, true≢false, slice_get, Some, not, ◌==◌, length-append}
+use Rattle.std.specs.List.{AllByRecursion}
 use Rattle.std.specs.List.Sorted.{IsStrictlySortedBy, IsPartitionedBy, IsPartitionPoint}
 use Rattle.std.specs.Ordering.{ordering_then, ordering_index}
 use Rattle.std.specs.declared.cmp.Ordering.{Ordering}
@@ -151,3 +152,21 @@ span-within key rows probe start span h =
     let m : length (span ++ h.behind) ≡ length span + length h.behind = length-append span h.behind in
     let p = h.place in
     omega (arith, e, l, m, p)
+
+-- what is cut out of a list in order is in order
+pub sorted-part : {A : Type 0} (cmp : A → A → Ordering) (before part behind : List A) → IsStrictlySortedBy cmp (before ++ (part ++ behind)) → IsStrictlySortedBy cmp part
+unfolding IsStrictlySortedBy
+sorted-part cmp [] part behind s = front part s
+  where
+    front-all : (P : _ → Type 0) (xs : List _) → AllByRecursion P (xs ++ behind) → AllByRecursion P xs
+    front-all P [] h = tt
+    front-all P (x ∷ xs) h = (h.0, front-all P xs h.1)
+
+    front : (xs : List _) → IsStrictlySortedBy cmp (xs ++ behind) → IsStrictlySortedBy cmp xs
+    front [] h = tt
+    front (x ∷ xs) h = (front-all (λ y. cmp x y ≡ Less) xs h.0, front xs h.1)
+sorted-part cmp (b ∷ before) part behind s = sorted-part cmp before part behind s.1
+
+-- so is a span
+pub span-sorted : (key : List ℕ) (rows : List (List Value)) (probe : List Value) (start : ℕ) (span : List (List Value)) → IsSpan key rows probe start span → IsStrictlySortedBy (block_cmp key) rows → IsStrictlySortedBy (block_cmp key) span
+span-sorted key rows probe start span s h = sorted-part (block_cmp key) s.before span s.behind (subst (IsStrictlySortedBy (block_cmp key)) s.parts h)

@@ -14,7 +14,7 @@ fn sizes_of(bound: &Bound<'_>) -> [u32; MOST_ATOMS as usize] {
     let mut sizes = [0; MOST_ATOMS as usize];
     let atoms = bound.query.atoms.as_slice();
     for at in 0..atoms.len() {
-        sizes[at] = bound.db.rows(atoms[at].table).len() as u32;
+        sizes[at] = bound.rows_of(at as u32).len() as u32;
     }
     sizes
 }

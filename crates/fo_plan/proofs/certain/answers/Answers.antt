@@ -7,9 +7,6 @@ use Rattle.fo_plan.proofs.Gathered.{gives-all}
 use Rattle.plan_rows.proofs.Sharing.{underway-starts, none-right}
 use Rattle.fo_plan.proofs.certain.answers.Goals as goal
 
-pub shared_columns-requires : goal.shared_columns-requires
-shared_columns-requires c = subst (AreQueryAtoms c.args.bound.now.query.now) (sym c.as_slice-order.ensures) c.requires.plan
-
 pub invariant_of-course : goal.invariant_of-course
 invariant_of-course c = record {
   atoms = subst (AreQueryAtoms c.args.bound.now.query.now) (sym c.as_slice-order.ensures) c.requires.plan;

@@ -2,44 +2,13 @@ use Rattle.std.proofs.Common.{ℕ, length, Contains, Vec, arith, ap, subst, sym}
 use Rattle.std.specs.declared.alloc.Global.{Global}
 use Rattle.std.proofs.lemmas.Result.{on_ok_weaker}
 use Rattle.fo_plan.specs.Chaining.{GoesOn}
-use Rattle.fo_plan.proofs.Chained.{goes-nowhere, goes-wider, goes-twice, some-are, all-among, atoms-further}
+use Rattle.fo_plan.proofs.Chained.{goes-nowhere, goes-wider, goes-twice, some-are, all-among}
 use Rattle.fo_plan.proofs.links.+add_chain.Goals.{then-is_none+in_ok-add_chain, else-is_none}
 use Rattle.fo_plan.proofs.links.+add_chain.Goals as goal
 
-pub linked_atom-requires-clause-taken : goal.linked_atom-requires-clause-taken
-linked_atom-requires-clause-taken t c = λ F m. c.requires.taken F (subst (λ z. Contains z F) c.as_slice.ensures.value m)
-
-pub linked_atom-requires-clause-atoms : goal.linked_atom-requires-clause-atoms
-linked_atom-requires-clause-atoms t c = λ F m.
-    c.requires.atoms F (all-among c.args.atoms.now c.new-joined.result.items c.part.new.joined.items c.new-joined.ensures.items c.in_ok-part.ensures.joined F (subst (λ z. Contains z F) c.as_slice-2.ensures.value m))
-
 pub add_chain-requires : goal.add_chain-requires
 add_chain-requires t c =
-    let atoms = c.args.atoms.now in (
-      omega (arith, c.decreases, ap length c.as_slice-then-is_none-2.ensures.value, c.in_ok-part.ensures.size, ap length c.new-joined.ensures.items, ap length c.new-others.ensures.items, some-are c.part.new.joined.len c.if-is_empty.ensures, c.part.new.joined.ok.0),
-      (
-        (λ F m. c.requires.atoms F (all-among atoms c.new-joined.result.items c.part.new.joined.items c.new-joined.ensures.items c.in_ok-part.ensures.joined F (subst (λ z. Contains z F) c.as_slice-then-is_none.ensures.value m))),
-        (
-          (λ F m. c.requires.atoms F (all-among atoms c.new-others.result.items c.part.new.others.items c.new-others.ensures.items c.in_ok-part.ensures.others F (subst (λ z. Contains z F) c.as_slice-then-is_none-2.ensures.value m))),
-          c.requires.taken,
-        ),
-      ),
-    )
-
-pub add_linked-requires-clause-atoms : goal.add_linked-requires-clause-atoms
-add_linked-requires-clause-atoms t c = λ F m.
-    c.requires.atoms F (all-among c.args.atoms.now c.new-joined.result.items c.part.new.joined.items c.new-joined.ensures.items c.in_ok-part.ensures.joined F (subst (λ z. Contains z F) c.as_slice-3.ensures.value m))
-
-pub add_linked-requires-clause-taken : goal.add_linked-requires-clause-taken
-add_linked-requires-clause-taken t c =
-    let q = c.args.setting.now.bound.now.query.now in
-    elim c.if-is_none.branch [
-      | then-is_none+in_ok-add_chain w ↦ λ F m.
-          atoms-further q w.as_slice-then-is_none-2.result.now c.args.taken.now.items w.add_chain.new.taken.items
-          (λ G n. c.requires.atoms G (all-among c.args.atoms.now c.new-others.result.items c.part.new.others.items c.new-others.ensures.items c.in_ok-part.ensures.others G (subst (λ z. Contains z G) w.as_slice-then-is_none-2.ensures.value n)))
-          c.requires.taken w.in_ok-add_chain.ensures F (subst (λ (v : Vec ℕ Global). Contains v.items F) w.taken-is m)
-      | else-is_none w ↦ λ F m. c.requires.taken F (subst (λ (v : Vec ℕ Global). Contains v.items F) w.taken-is m)
-    ]
+    omega (arith, c.decreases, ap length c.as_slice-then-is_none-2.ensures.value, c.in_ok-part.ensures.size, ap length c.new-joined.ensures.items, ap length c.new-others.ensures.items, some-are c.part.new.joined.len c.if-is_empty.ensures, c.part.new.joined.ok.0)
 
 pub returns : goal.returns
 returns t c =

@@ -6,9 +6,6 @@ use Rattle.fo_plan.proofs.Chained.{goes-nowhere, goes-further}
 use Rattle.fo_plan.proofs.links.part.Goals.{then-is_linked+in_ok-push, else-is_linked+in_ok-push-2}
 use Rattle.fo_plan.proofs.links.part.Goals as goal
 
-pub is_linked-requires-clause-atom : goal.is_linked-requires-clause-atom
-is_linked-requires-clause-atom c = c.requires.atoms (get_or c.args.atoms.now c.loop-atom.atom-index 0) (Contains-get_or c.args.atoms.now c.loop-atom.atom-index 0 (search rules))
-
 pub loop-atom-init : goal.loop-atom-init
 loop-atom-init c = record {
   joined = goes-nowhere c.args.atoms.now c.args.joined.now.items;

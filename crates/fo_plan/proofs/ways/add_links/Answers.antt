@@ -1,16 +1,9 @@
-use Rattle.std.proofs.Common.{◌≡◌, ◌+◌, ◌<◌, length, get_or, drop, ◌∷◌, ◌++◌, Contains, rules, sym, subst, add-one, drop-cons}
+use Rattle.std.proofs.Common.{◌≡◌, ◌+◌, ◌<◌, length, get_or, drop, ◌∷◌, ◌++◌, rules, sym, subst, add-one, drop-cons}
 use Rattle.std.proofs.lemmas.List.Elements.{Contains-get_or}
-use Rattle.cqa_value.proofs.Words.{Contains-from_take}
 use Rattle.plan_rows.specs.declared.links.Link.{Link}
 use Rattle.plan_rows.specs.Links.{AreLinks, atoms_on}
 use Rattle.fo_plan.proofs.LinkLists.{links-push, links-further}
 use Rattle.fo_plan.proofs.ways.add_links.Goals as goal
-
-pub path_of-requires-clause-taken : goal.path_of-requires-clause-taken
-path_of-requires-clause-taken c = λ F m. c.requires.atoms F (Contains-from_take c.loop-at.at c.args.atoms.now F (subst (λ z. Contains z F) c.split_at.ensures.front m))
-
-pub path_of-requires-clause-atom : goal.path_of-requires-clause-atom
-path_of-requires-clause-atom c = c.requires.atoms (get_or c.args.atoms.now c.loop-at.at 0) (Contains-get_or c.args.atoms.now c.loop-at.at 0 (search rules))
 
 pub loop-at-preserved : goal.loop-at-preserved
 loop-at-preserved c =

@@ -1,4 +1,4 @@
-use Rattle.std.proofs.Common.{[], ap, map, length, ◌∙◌, get_or}
+use Rattle.std.proofs.Common.{ap, map, length, ◌∙◌}
 use Rattle.cqa_model.specs.Database.{stored}
 use Rattle.weak_pairs.specs.Packing.{list_of}
 use Rattle.pair_answers.proofs.Listing.{of-side, row-lists-of}
@@ -10,15 +10,15 @@ returns-clause-lists c = λ all.
     let row = c.args.row.now in
     let columns = c.args.columns.now in
     let tables = stored bound.db.now in
-    let first = c.rows-first.result in
-    let second = c.rows-second.result in
+    let first = c.rows_of-first.result in
+    let second = c.rows_of-second.result in
     let none = map list_of c.args.codes.now.items in
     let some = map list_of c.append_codes.new.codes.items in
     let lists = map list_of c.append_codes-2.new.codes.items in
     let s = c.new.ensures in
     let t = c.new-2.ensures in
     row-lists-of bound.query.now tables row columns.left.items columns.right.items first second none some lists c.requires.columns
-    (c.rows-first.ensures.is ∙ ap (λ z. get_or tables z []) c.table_of.ensures) (c.rows-second.ensures.is ∙ ap (λ z. get_or tables z []) c.table_of-2.ensures)
+    c.rows_of-first.ensures.rows c.rows_of-second.ensures.rows
     (ap (map list_of) c.requires.none)
     (of-side c.new.result bound row 0 columns.left.items s.bound s.row s.atom (s.columns ∙ c.deref.ensures.value) first (length first) none some (c.in_ok-append_codes.ensures c.if-not-branch.false))
     (of-side c.new-2.result bound row 1 columns.right.items t.bound t.row t.atom (t.columns ∙ c.deref-2.ensures.value) second (length second) some lists (c.in_ok-all.ensures all))

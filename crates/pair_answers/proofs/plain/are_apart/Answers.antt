@@ -1,7 +1,14 @@
 use Rattle.std.proofs.Common.{◌≡◌, ◌≢◌, ◌<◌, ◌+◌, ℕ, sym, subst, arith}
 use native.Mathlib.Decide.{ℕ_discrete}
 use Rattle.cqa_model.specs.Variables.{AreLinked}
+use Rattle.table_blocks.proofs.Binding.{in-range}
 use Rattle.pair_answers.proofs.plain.are_apart.Goals as goal
+
+pub is_apart-requires-clause-first : goal.is_apart-requires-clause-first
+is_apart-requires-clause-first c = in-range c.args.bound.now.query.now c.args.atom c.loop-i.i (let t = c.loop-i-test.true in let w = c.width_of-columns.ensures in omega (arith, t, w))
+
+pub is_apart-requires-clause-second : goal.is_apart-requires-clause-second
+is_apart-requires-clause-second c = in-range c.args.bound.now.query.now c.args.atom c.loop-j.j (let t = c.loop-j-test.true in let w = c.width_of-columns.ensures in omega (arith, t, w))
 
 pub loop-j-preserved : goal.loop-j-preserved
 loop-j-preserved c = λ b l. go b l (ℕ_discrete b c.loop-j.j)

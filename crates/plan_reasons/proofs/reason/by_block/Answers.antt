@@ -1,7 +1,5 @@
-use Rattle.std.proofs.Common.{◌≡◌, ◌<◌, ◌≤◌, ◌∙◌, length, get_or, sym, ap, subst, List, []}
-use Rattle.std.proofs.lemmas.List.{get_or_default}
+use Rattle.std.proofs.Common.{◌≡◌, ◌<◌, ◌≤◌, ◌∙◌, length, get_or, sym, ap, subst, []}
 use Rattle.std.proofs.lemmas.Option.{get_or_from_slice_get}
-use Rattle.cqa_model.specs.declared.query.Atom.{Atom}
 use Rattle.cqa_model.specs.Database.{key_of}
 use Rattle.cqa_model.specs.Query.{atom_at, atom_key}
 use Rattle.cqa_model.specs.Variables.{whole}
@@ -28,8 +26,7 @@ values_of-requires c =
     let F = get_or c.as_slice.result.now 0 0 in
     let at : F ≡ first_of_plan order = ap (λ xs. get_or xs 0 0) c.as_slice.ensures in
     let inside : F < length q.atoms = subst (λ G. G < length q.atoms) (sym at) (first-atom c.args.bound.now.db.now q c.args.row.now order c.in-Some.block c.in-Some.ensures.1 (plan-atoms q order (plan-eliminates q (whole q) order c.requires.plan))) in
-    let is : c.index-as_slice-first.result ≡ atom_at q F = c.index-as_slice-first.is ∙ (ap (λ (atoms : List Atom). get_or atoms F c.index-as_slice-first.result) c.as_slice-2.ensures ∙ get_or_default q.atoms F c.index-as_slice-first.result _ inside) in
-    subst (λ ks. length ks ≤ 16) (sym (c.as_slice-3.ensures ∙ ap (λ (a : Atom). a.key) is)) (few-keys q F inside)
+    subst (λ ks. length ks ≤ 16) (sym c.key_of.ensures) (few-keys q F inside)
 
 pub returns-clause-found : goal.returns-clause-found
 returns-clause-found c =
@@ -38,18 +35,15 @@ returns-clause-found c =
     let row = c.args.row.now in
     let order = c.args.plan.now.order in
     let block = c.in-Some.block in
-    let F = get_or c.as_slice.result.now 0 0 in
-    let at : F ≡ first_of_plan order = ap (λ xs. get_or xs 0 0) c.as_slice.ensures in
-    let inside : F < length q.atoms = subst (λ G. G < length q.atoms) (sym at) (first-atom db q row order block c.in-Some.ensures.1 (plan-atoms q order (plan-eliminates q (whole q) order c.requires.plan))) in
-    let is : c.index-as_slice-first.result ≡ atom_at q F = c.index-as_slice-first.is ∙ (ap (λ (atoms : List Atom). get_or atoms F c.index-as_slice-first.result) c.as_slice-2.ensures ∙ get_or_default q.atoms F c.index-as_slice-first.result _ inside) in
+    let at : get_or c.as_slice.result.now 0 0 ≡ first_of_plan order = ap (λ xs. get_or xs 0 0) c.as_slice.ensures in
     let first = sym (get_or_from_slice_get block 0 c.get.result.now [] c.get.ensures) in
-    let by : IsByBlock db q row c.index-as_slice-first.result.table c.in_ok-key.key = record {
+    let by : IsByBlock db q row c.table_of-table.result c.in_ok-key.key = record {
       certain = (c.requires.exact db row c.args.bound.now.fits c.requires.long).0 c.in-Some.ensures.0;
       plan = order;
       is_plan = c.requires.plan;
       block = block;
       first = c.in-Some.ensures.1;
-      of_first = ap (λ (a : Atom). a.table) is ∙ ap (λ G. (atom_at q G).table) at;
-      keyed = c.in_ok-key.ensures ∙ (ap (λ ks. key_of ks c.get.result.now) (c.as_slice-3.ensures ∙ (ap (λ (a : Atom). a.key) is ∙ ap (atom_key q) at)) ∙ ap (key_of (atom_key q (first_of_plan order))) first);
+      of_first = c.table_of-table.ensures.table ∙ ap (λ G. (atom_at q G).table) at;
+      keyed = c.in_ok-key.ensures ∙ (ap (λ ks. key_of ks c.get.result.now) (c.key_of.ensures ∙ ap (atom_key q) at) ∙ ap (key_of (atom_key q (first_of_plan order))) first);
     } in
-    (by, subst (λ (a : Atom). a.table < length db) (sym is) (c.args.bound.now.fits.there F inside))
+    (by, c.table_of-table.ensures.there)

@@ -2,5 +2,5 @@ use Rattle.plan_rows.specs.Fitting.{AgreesInFirst}
 use Rattle.plan_rows.proofs.fitting.agrees.Given as goal
 
 -- the columns so far
-abbrev pub invariant-loop-i : goal.invariant-loop-i
-invariant-loop-i l = AgreesInFirst l.setting.bound.now.query.now l.atom l.x l.other l.y l.i
+abbrev pub invariant-loop-col : goal.invariant-loop-col
+invariant-loop-col l = AgreesInFirst l.bound.query.now l.atom l.x l.other l.y l.col

@@ -5,4 +5,4 @@ use Rattle.plan_rows.proofs.grouped.are_joined.Given as goal
 
 -- no column so far is linked
 abbrev pub invariant-loop-col : goal.invariant-loop-col
-invariant-loop-col l = (j : ℕ) → j < l.col → (i : ℕ) → i < (atom_at l.setting.bound.now.query.now l.atom).width → AreLinked l.setting.bound.now.query.now (record { atom = l.atom; col = i }) (record { atom = l.other; col = j }) → ⊥
+invariant-loop-col l = (j : ℕ) → j < l.col → (i : ℕ) → i < (atom_at l.bound.query.now l.atom).width → AreLinked l.bound.query.now (record { atom = l.atom; col = i }) (record { atom = l.other; col = j }) → ⊥

@@ -7,7 +7,7 @@ use Rattle.plan_rows.proofs.grouped.is_joined.Goals as goal
 
 pub loop-other-preserved : goal.loop-other-preserved
 loop-other-preserved c =
-    let q = c.args.setting.now.bound.now.query.now in
+    let q = c.args.bound.now.query.now in
     let group = c.args.group.now in
     below_more (λ F. HasAtom group F → AreUnlinked q F c.args.atom) c.loop-other.other c.loop-other.invariant
     (λ h. elim c.else-has.branch [

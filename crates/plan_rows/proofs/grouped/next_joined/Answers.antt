@@ -12,9 +12,6 @@ has-requires c =
     let few = c.args.setting.now.bound.now.query.now.kept.size.1 in
     omega (arith, l, few)
 
-pub is_joined-requires : goal.is_joined-requires
-is_joined-requires c = c.requires (get_or c.args.atoms.now c.loop-atom.atom-index 0) (Contains-get_or c.args.atoms.now c.loop-atom.atom-index 0 c.loop-atom-test.true)
-
 pub returns-then-is_joined : goal.returns-then-is_joined
 returns-then-is_joined c = c.requires (get_or c.args.atoms.now c.loop-atom.atom-index 0) (Contains-get_or c.args.atoms.now c.loop-atom.atom-index 0 c.loop-atom-test.true)
 

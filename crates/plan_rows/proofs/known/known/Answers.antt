@@ -10,9 +10,6 @@ use Rattle.plan_rows.specs.Over.{look_query, look_taken}
 use Rattle.plan_rows.proofs.Telling.{may-tests, may-agree, may-answer, told-map}
 use Rattle.plan_rows.proofs.known.known.Goals as goal
 
-pub told_by_taken-requires-clause-taken : goal.told_by_taken-requires-clause-taken
-told_by_taken-requires-clause-taken c = c.args.look.now.of_atoms
-
 pub returns-in-Some : goal.returns-in-Some
 returns-in-Some c =
     let look = c.args.look.now in

@@ -4,15 +4,9 @@ use Rattle.cqa_model.specs.Query.{rows_of}
 use Rattle.plan_rows.specs.Knowing.{MayFit}
 use Rattle.plan_rows.specs.Over.{look_query, look_tables, look_taken}
 use Rattle.plan_rows.specs.Links.{HasReached, atoms_on}
-use Rattle.plan_rows.proofs.Suiting.{atoms-more}
 use Rattle.plan_rows.proofs.Looking.{up-next, up-all, read-row}
 use Rattle.plan_rows.proofs.Guessing.{reached-more, reached-all, path-of, links-first, links-rest}
 use Rattle.plan_rows.proofs.reached.+reached.Goals as goal
-
-pub add_guess-invariant_of-on : goal.add_guess-invariant_of-on
-add_guess-invariant_of-on t c =
-    let look = c.args.look.now in
-    record { of_atoms = atoms-more (look_query look) _ (look_taken look) c.requires.atom look.of_atoms; there = look.there }
 
 pub add_guesses-loop-place-preserved : goal.add_guesses-loop-place-preserved
 add_guesses-loop-place-preserved t c =
@@ -22,7 +16,7 @@ add_guesses-loop-place-preserved t c =
     let row = option_copied c.args.row in
     let links = atoms_on c.args.later.now in
     let at = c.loop-place.place in
-    let z = read-row q look.setting.now.bound.now.db.now c.args.atom c.table_of.result c.rows-rows.result at c.get.result.now c.rows-rows.ensures.is c.table_of.ensures c.get.ensures in
+    let z = read-row (rows_of q tables c.args.atom) c.rows_of-rows.result at c.get.result.now c.rows_of-rows.ensures.rows c.get.ensures in
     record {
       kept = λ p m. c.in_ok-add_guess.ensures.kept p (c.loop-place.invariant.kept p m);
       added = up-next q tables row (look_taken look) [] c.args.atom (rows_of q tables c.args.atom) c.args.places.now c.requires.places
@@ -47,7 +41,7 @@ add_guesses-returns-clause-added t c =
 pub add_reached-invariant_of-guess : goal.add_reached-invariant_of-guess
 add_reached-invariant_of-guess t c =
     let look = c.args.look.now in
-    record { of_atoms = look.of_atoms; there = (links-first (look_query look) look.setting.now.bound.now.db.now c.args.links.now c.in-Some.link.now c.in-Some.later.now c.in-Some.ensures.cases.0 c.requires.links).0 }
+    record { there = (links-first (look_query look) look.setting.now.bound.now.db.now c.args.links.now c.in-Some.link.now c.in-Some.later.now c.in-Some.ensures.cases.0 c.requires.links).0 }
 
 pub add_reached-new-places-requires : goal.add_reached-new-places-requires
 add_reached-new-places-requires t c =

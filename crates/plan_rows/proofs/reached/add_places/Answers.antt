@@ -11,7 +11,7 @@ loop-at-preserved c =
     let q = look_query look in
     let row = option_copied c.args.row in
     let at = c.loop-at.at in
-    let y = read-row q look.setting.now.bound.now.db.now look.atom c.table_of.result c.rows-rows.result at c.get.result.now c.rows-rows.ensures.is c.table_of.ensures c.get.ensures in
+    let y = read-row (look_rows look) c.rows_of-rows.result at c.get.result.now c.rows_of-rows.ensures.rows c.get.ensures in
     record {
       kept = λ p m. c.in_ok-add_place.ensures.kept p (c.loop-at.invariant.kept p m);
       added = up-next q (look_tables look) row (look_taken look) [] look.atom (look_rows look) c.args.places.now c.requires (Contains c.add_place.new.found) at c.after-at.result c.after-at.ensures.passed

@@ -7,5 +7,5 @@ use Rattle.plan_rows.proofs.shared.add_shared.Given as goal
 abbrev pub invariant-loop-col : goal.invariant-loop-col
 invariant-loop-col l = record {
   kept : (c : ColRef) → Contains l.fn.columns.items c → Contains l.columns.items c;
-  added : (j : ℕ) → j < l.col → IsTold l.setting.bound.now.query.now l.others (record { atom = l.atom; col = j }) → Contains l.columns.items (record { atom = l.atom; col = j });
+  added : (j : ℕ) → j < l.col → IsTold l.bound.query.now l.others (record { atom = l.atom; col = j }) → Contains l.columns.items (record { atom = l.atom; col = j });
 }

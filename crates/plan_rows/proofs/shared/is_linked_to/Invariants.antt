@@ -4,4 +4,4 @@ use Rattle.plan_rows.proofs.shared.is_linked_to.Given as goal
 
 -- no column so far is linked
 abbrev pub invariant-loop-col : goal.invariant-loop-col
-invariant-loop-col l = (i : ℕ) → i < l.col → AreLinked l.setting.bound.now.query.now (record { atom = l.atom; col = i }) l.column → ⊥
+invariant-loop-col l = (i : ℕ) → i < l.col → AreLinked l.bound.query.now (record { atom = l.atom; col = i }) l.column → ⊥

@@ -1,15 +1,8 @@
-use Rattle.std.proofs.Common.{◌∷◌, [], length, ap, sym, subst, arith, Contains}
+use Rattle.std.proofs.Common.{◌∷◌, [], length, ap, sym, subst, arith}
 use Rattle.std.proofs.lemmas.List.{length-append}
-use Rattle.cqa_value.proofs.Words.{Contains-from_take}
 use Rattle.plan_rows.specs.Left.{AreSharedInParts}
-use Rattle.plan_rows.proofs.Columns.{drop-member, shared-more}
+use Rattle.plan_rows.proofs.Columns.{shared-more}
 use Rattle.plan_rows.proofs.shared.shared_columns.Goals as goal
-
-pub shared_of-requires-clause-front : goal.shared_of-requires-clause-front
-shared_of-requires-clause-front c = λ F m. c.requires F (Contains-from_take c.loop-count.count c.args.order.now F (subst (λ p. Contains p F) c.split_at.ensures.front m))
-
-pub shared_of-requires-clause-rest : goal.shared_of-requires-clause-rest
-shared_of-requires-clause-rest c = λ F m. c.requires F (drop-member c.loop-count.count c.args.order.now F (subst (λ p. Contains p F) c.split_at.ensures.back m))
 
 pub loop-count-preserved : goal.loop-count-preserved
 loop-count-preserved c =

@@ -1,15 +1,8 @@
 use Rattle.std.proofs.Common.{ℕ, ◌<◌, Contains, get_or, below_more, sym, subst, arith}
-use Rattle.std.proofs.lemmas.List.Elements.{Contains-get_or}
 use Rattle.cqa_model.specs.Query.{atom_at}
 use Rattle.plan_rows.specs.Left.{IsTold}
 use Rattle.plan_rows.proofs.Columns.{each-atom}
 use Rattle.plan_rows.proofs.shared.shared_of.Goals as goal
-
-pub add_shared-requires-clause-atom : goal.add_shared-requires-clause-atom
-add_shared-requires-clause-atom c =
-    let front = c.args.front.now in
-    let at = c.loop-atom.atom-index in
-    c.requires.front (get_or front at 0) (Contains-get_or front at 0 c.loop-atom-test.true)
 
 pub loop-atom-preserved : goal.loop-atom-preserved
 loop-atom-preserved c =

@@ -5,11 +5,10 @@ use Rattle.cqa_model.specs.Database.{stored}
 use Rattle.cqa_model.specs.Query.{rows_of}
 use Rattle.join_access.specs.Listing.{names_of}
 use Rattle.row_witnesses.specs.Columns.{place_at}
-use Rattle.table_blocks.specs.Tables.{rows_at}
 use Rattle.range_ask.specs.Ranges.{cell}
 use Rattle.range_ask.specs.Finding.{row_in_block}
 use Rattle.range_join.specs.Peaks.{best_at, further, AreBest, GivesValue, IsPeak}
-use Rattle.range_join.proofs.Carrying.{atom-read, names-more, witness-size, witness-there, best-more}
+use Rattle.range_join.proofs.Carrying.{names-more, witness-size, witness-there, best-more}
 use Rattle.range_join.proofs.carriers.carriers.Goals as goal
 
 pub place_of-place-requires : goal.place_of-place-requires
@@ -25,12 +24,8 @@ row_of-row-requires-clause-atom c =
 pub row_of-row-requires-clause-there : goal.row_of-row-requires-clause-there
 row_of-row-requires-clause-there c =
     let found = c.args.found.now in
-    let q = found.bound.now.query.now in
-    let db = found.bound.now.db.now in
     let m = (names-more c.as_slice-witness-items.result.now found.list c.as_slice-witness-items.ensures c.loop-witness.witness-index c.loop-witness-test.true c.witness-item.result c.witness-item.is).0 in
-    let rows-is : c.rows-rows.result ≡ rows_of q (stored db) c.args.look.atom =
-    c.rows-rows.ensures.is ∙ ap (λ a. rows_at db a.table) (sym c.index-atoms-look.is ∙ atom-read c.as_slice-atoms.result.now q.atoms c.as_slice-atoms.ensures c.args.look.atom c.requires.atom c.index-atoms-look.result c.index-atoms-look.is) in
-    subst (λ rows. place_at c.witness-item.result.rows c.args.look.atom < length rows) (sym rows-is) (witness-there found c.witness-item.result m c.args.look.atom c.requires.atom)
+    subst (λ rows. place_at c.witness-item.result.rows c.args.look.atom < length rows) (sym c.rows_of-rows.ensures.rows) (witness-there found c.witness-item.result m c.args.look.atom c.requires.atom)
 
 pub add_row-requires : goal.add_row-requires
 add_row-requires c =
@@ -38,9 +33,7 @@ add_row-requires c =
     let q = found.bound.now.query.now in
     let db = found.bound.now.db.now in
     let m = (names-more c.as_slice-witness-items.result.now found.list c.as_slice-witness-items.ensures c.loop-witness.witness-index c.loop-witness-test.true c.witness-item.result c.witness-item.is).0 in
-    let rows-is : c.rows.result ≡ rows_of q (stored db) c.args.look.lax =
-    c.rows.ensures.is ∙ ap (λ a. rows_at db a.table) (sym c.index-atoms-look-2.is ∙ atom-read c.as_slice-atoms.result.now q.atoms c.as_slice-atoms.ensures c.args.look.lax c.requires.lax c.index-atoms-look-2.result c.index-atoms-look-2.is) in
-    let size : length c.loop-witness.bests.items ≡ length (rows_of q (stored db) c.args.look.lax) = c.loop-witness.invariant.0 ∙ (c.len-count.ensures ∙ ap length rows-is) in
+    let size : length c.loop-witness.bests.items ≡ length (rows_of q (stored db) c.args.look.lax) = c.loop-witness.invariant.0 ∙ (c.len-count.ensures ∙ ap length c.rows_of.ensures.rows) in
     subst (λ n. c.place_of-place.result < n) (sym size)
     (subst (λ p. p < length (rows_of q (stored db) c.args.look.lax)) (sym c.place_of-place.ensures) (witness-there found c.witness-item.result m c.args.look.lax c.requires.lax))
 
@@ -54,12 +47,10 @@ loop-witness-preserved c =
     let i = c.loop-witness.witness-index in
     let item = c.witness-item.result in
     let more = (names-more c.as_slice-witness-items.result.now found.list c.as_slice-witness-items.ensures i c.loop-witness-test.true item c.witness-item.is).1 in
-    let rows-is : c.rows-rows.result ≡ rows =
-    c.rows-rows.ensures.is ∙ ap (λ a. rows_at db a.table) (sym c.index-atoms-look.is ∙ atom-read c.as_slice-atoms.result.now q.atoms c.as_slice-atoms.ensures look.atom c.requires.atom c.index-atoms-look.result c.index-atoms-look.is) in
     let old = c.loop-witness.bests.items in
     let new = c.add_row.new.bests.items in
     let at = c.place_of-place.result in
-    let row-is = c.row_of-row.ensures ∙ ap (λ rs. row_in_block rs (place_at item.rows look.atom)) rows-is in (
+    let row-is = c.row_of-row.ensures ∙ ap (λ rs. row_in_block rs (place_at item.rows look.atom)) c.rows_of-rows.ensures.rows in (
       c.add_row.ensures.size ∙ c.loop-witness.invariant.0,
       subst (λ all. AreBest look.way (GivesValue rows all look.lax look.atom look.col) c.len-count.result (best_at look.col new)) (sym more)
           (best-more look.way rows look.lax look.atom look.col c.len-count.result (names_of (take i found.list)) item.rows old new at c.place_of-place.ensures c.loop-witness.invariant.1

@@ -18,4 +18,4 @@ returns c =
     let peaks = c.in_ok-peaks.peaks in
     let all : AreAllNames q db [] (names_of w.list) = subst (λ row. AreAllNames q db row (names_of w.list)) c.requires.row (all_names w) in
     IfOk-weaker c.range_of.result _ _ (λ range r. peaked db q w.bound.now.fits w.bound.now.database look.lax c.requires.strict c.requires.lax IsAnyWitness (names_of w.list) (all-names db q w.bound.now.fits (names_of w.list) all) look.atom c.requires.atom look.col look.way (end_places peaks) c.in_ok-peaks.ensures range r.least
-    (r.low ∙ ap (λ t. names_in t peaks.low.items) c.table_of.ensures) r.greatest (r.high ∙ ap (λ t. names_in t peaks.high.items) c.table_of.ensures)) c.range_of.ensures
+    (r.low ∙ ap (λ t. names_in t peaks.low.items) c.table_of.ensures.table) r.greatest (r.high ∙ ap (λ t. names_in t peaks.high.items) c.table_of.ensures.table)) c.range_of.ensures

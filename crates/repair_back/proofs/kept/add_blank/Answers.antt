@@ -2,7 +2,7 @@ use Rattle.repair_back.proofs.Starting.{blank-none, blank-more}
 use Rattle.repair_back.proofs.kept.add_blank.Goals as goal
 
 pub loop-table-init : goal.loop-table-init
-loop-table-init c = blank-none c.args.db.now c.args.tables.now c.args.kept.now.items c.requires.none
+loop-table-init c = blank-none c.args.db.now c.args.tables.now c.args.kept.now.items c.requires
 
 pub loop-table-preserved : goal.loop-table-preserved
 loop-table-preserved c =

@@ -13,7 +13,7 @@ use Rattle.cqa_model.proofs.Views.{view-in_range}
 use Rattle.plan_rows.specs.Taking.{placed}
 use Rattle.plan_rows.specs.Underway.{IsUnderway, IsRight}
 use Rattle.plan_rows.specs.declared.memo.Memo.{Memo}
-use Rattle.plan_rows.proofs.Sharing.{passed-count, underway-more, underway-taken, still-right, keeps-right}
+use Rattle.plan_rows.proofs.Sharing.{passed-count, underway-more, still-right, keeps-right}
 use Rattle.plan_rows.proofs.Suiting.{suits-from}
 use Rattle.plan_rows.proofs.PlanParts.{plan-split, rest-shorter}
 use Rattle.plan_rows.specs.Links.{RowHolds, atoms_on}
@@ -117,37 +117,37 @@ mend_block-loop-next-preserved t c =
 
 pub mend_places-loop-at-init : goal.mend_places-loop-at-init
 mend_places-loop-at-init t c =
-    record { blocks = blocks-none c.args.way.now.course.now.setting.bound.now.query.now c.args.way.now.course.now.setting.bound.now.db.now c.args.way.now.course.now.setting.bound.now.fits c.args.way.now.row.now c.args.way.now.long (placed c.args.taken.now) c.requires.next.taken_fit c.args.atom c.requires.next.has c.args.kept.now c.rows-rows.result c.args.places.now.start c.requires.chosen; right = c.requires.memo }
+    record { blocks = blocks-none c.args.way.now.course.now.setting.bound.now.query.now c.args.way.now.course.now.setting.bound.now.db.now c.args.way.now.course.now.setting.bound.now.fits c.args.way.now.row.now c.args.way.now.long (placed c.args.taken.now) c.requires.next.taken_fit c.args.atom c.requires.next.has c.args.kept.now c.rows_of-rows.result c.args.places.now.start c.requires.chosen; right = c.requires.memo }
 
 pub mend_places-loop-at-preserved : goal.mend_places-loop-at-preserved
 mend_places-loop-at-preserved t c =
-    let is = c.rows-rows.ensures.is ∙ ap (λ n. get_or (stored c.args.way.now.course.now.setting.bound.now.db.now) n []) c.table_of.ensures in
+    let is = c.rows_of-rows.ensures.rows in
     let within = c.requires.there.2.within in
-    let inside : c.loop-at.at < length c.rows-rows.result = subst (λ (rs : List (List Value)). c.loop-at.at < length rs) (sym is) (omega (arith, c.loop-at-test.true, within)) in
-    let passed : (i : ℕ) → c.loop-at.at < i → i < c.after-at.result → i < length c.rows-rows.result → IsInWitness c.args.way.now.course.now.setting.bound.now.query.now c.args.way.now.course.now.setting.bound.now.db.now c.args.way.now.row.now (placed c.args.taken.now) c.args.atom (get_or c.rows-rows.result i []) → ⊥ =
+    let inside : c.loop-at.at < length c.rows_of-rows.result = subst (λ (rs : List (List Value)). c.loop-at.at < length rs) (sym is) (omega (arith, c.loop-at-test.true, within)) in
+    let passed : (i : ℕ) → c.loop-at.at < i → i < c.after-at.result → i < length c.rows_of-rows.result → IsInWitness c.args.way.now.course.now.setting.bound.now.query.now c.args.way.now.course.now.setting.bound.now.db.now c.args.way.now.row.now (placed c.args.taken.now) c.args.atom (get_or c.rows_of-rows.result i []) → ⊥ =
     λ i low high. subst (λ (rs : List (List Value)). i < length rs → IsInWitness c.args.way.now.course.now.setting.bound.now.query.now c.args.way.now.course.now.setting.bound.now.db.now c.args.way.now.row.now (placed c.args.taken.now) c.args.atom (get_or rs i []) → ⊥) (sym is)
     (passed-led c.args.way.now (placed c.args.taken.now) c.args.atom c.args.rest.now c.requires.next c.args.places.now c.requires.there c.loop-at.at c.after-at.result c.after-at.ensures.passed i low high) in
     elim c.if-at-done.branch [
       | mend_places-then-at-done+in_ok-mended+else-mended-before w ↦
-          let block = subst (λ key. IsBlockBetween key c.rows-rows.result w.block_start-start.result w.block_end-done.result) c.key_columns-key.ensures w.block_end-done.ensures.block in
-          let same = subst (λ key. SharesKey key (get_or c.rows-rows.result w.block_start-start.result []) (get_or c.rows-rows.result c.loop-at.at [])) c.key_columns-key.ensures w.block_start-start.ensures.same in
-          let above = in-block (atom_key c.args.way.now.course.now.setting.bound.now.query.now c.args.atom) c.rows-rows.result w.block_start-start.result w.block_end-done.result c.loop-at.at block inside same in
+          let block = subst (λ key. IsBlockBetween key c.rows_of-rows.result w.block_start-start.result w.block_end-done.result) c.key_of-key.ensures w.block_end-done.ensures.block in
+          let same = subst (λ key. SharesKey key (get_or c.rows_of-rows.result w.block_start-start.result []) (get_or c.rows_of-rows.result c.loop-at.at [])) c.key_of-key.ensures w.block_start-start.ensures.same in
+          let above = in-block (atom_key c.args.way.now.course.now.setting.bound.now.query.now c.args.atom) c.rows_of-rows.result w.block_start-start.result w.block_end-done.result c.loop-at.at block inside same in
           record {
             right = subst (λ (m : Memo). IsRight c.args.way.now.course.now m) (sym w.memo-is) w.mend_block.ensures.memo;
-            blocks = subst (λ (k : List (List Bool)). BlocksSoFar c.args.way.now.course.now.setting.bound.now.query.now c.args.way.now.course.now.setting.bound.now.db.now c.args.way.now.row.now (placed c.args.taken.now) c.args.atom c.args.kept.now k c.rows-rows.result c.args.places.now.start c.after-at.result c.if-at-done.done) (sym w.kept-is)
-                (subst (λ d. BlocksSoFar c.args.way.now.course.now.setting.bound.now.query.now c.args.way.now.course.now.setting.bound.now.db.now c.args.way.now.row.now (placed c.args.taken.now) c.args.atom c.args.kept.now w.mend_block.new.kept c.rows-rows.result c.args.places.now.start c.after-at.result d) (sym w.done-is)
-                (blocks-on c.args.way.now.course.now.setting.bound.now.query.now c.args.way.now.course.now.setting.bound.now.db.now c.args.way.now.course.now.setting.bound.now.fits c.args.way.now.row.now c.args.way.now.long (placed c.args.taken.now) c.requires.next.taken_fit c.args.atom c.requires.next.has c.args.kept.now w.mend_block.new.kept c.rows-rows.result c.args.places.now.start c.loop-at.at w.block_end-done.result c.after-at.result
+            blocks = subst (λ (k : List (List Bool)). BlocksSoFar c.args.way.now.course.now.setting.bound.now.query.now c.args.way.now.course.now.setting.bound.now.db.now c.args.way.now.row.now (placed c.args.taken.now) c.args.atom c.args.kept.now k c.rows_of-rows.result c.args.places.now.start c.after-at.result c.if-at-done.done) (sym w.kept-is)
+                (subst (λ d. BlocksSoFar c.args.way.now.course.now.setting.bound.now.query.now c.args.way.now.course.now.setting.bound.now.db.now c.args.way.now.row.now (placed c.args.taken.now) c.args.atom c.args.kept.now w.mend_block.new.kept c.rows_of-rows.result c.args.places.now.start c.after-at.result d) (sym w.done-is)
+                (blocks-on c.args.way.now.course.now.setting.bound.now.query.now c.args.way.now.course.now.setting.bound.now.db.now c.args.way.now.course.now.setting.bound.now.fits c.args.way.now.row.now c.args.way.now.long (placed c.args.taken.now) c.requires.next.taken_fit c.args.atom c.requires.next.has c.args.kept.now w.mend_block.new.kept c.rows_of-rows.result c.args.places.now.start c.loop-at.at w.block_end-done.result c.after-at.result
                 (blocks-more c.args.way.now.course.now.setting.bound.now.query.now c.args.way.now.course.now.setting.bound.now.db.now c.args.way.now.course.now.setting.bound.now.fits c.args.way.now.row.now c.args.way.now.long (placed c.args.taken.now) c.requires.next.taken_fit c.args.atom c.requires.next.has c.requires.next.free c.args.kept.now c.loop-at.kept w.mend_block.new.kept
-                c.rows-rows.result c.args.places.now.start c.loop-at.at c.loop-at.done w.block_start-start.result w.block_end-done.result c.loop-at.invariant.blocks block w.block_start-start.ensures.before above
+                c.rows_of-rows.result c.args.places.now.start c.loop-at.at c.loop-at.done w.block_start-start.result w.block_end-done.result c.loop-at.invariant.blocks block w.block_start-start.ensures.before above
                 w.mend_block.ensures.mends.chosen w.mend_block.ensures.mends.reached (w.mend_block.ensures.mends.lacks (ap is_some w.in_ok-mended.was)))
                 above passed));
           }
       | mend_places-else-at-done w ↦
           record {
             right = subst (λ (m : Memo). IsRight c.args.way.now.course.now m) (sym w.memo-is) c.loop-at.invariant.right;
-            blocks = subst (λ (k : List (List Bool)). BlocksSoFar c.args.way.now.course.now.setting.bound.now.query.now c.args.way.now.course.now.setting.bound.now.db.now c.args.way.now.row.now (placed c.args.taken.now) c.args.atom c.args.kept.now k c.rows-rows.result c.args.places.now.start c.after-at.result c.if-at-done.done) (sym w.kept-is)
-                (subst (λ d. BlocksSoFar c.args.way.now.course.now.setting.bound.now.query.now c.args.way.now.course.now.setting.bound.now.db.now c.args.way.now.row.now (placed c.args.taken.now) c.args.atom c.args.kept.now c.loop-at.kept c.rows-rows.result c.args.places.now.start c.after-at.result d) (sym w.done-is)
-                (blocks-on c.args.way.now.course.now.setting.bound.now.query.now c.args.way.now.course.now.setting.bound.now.db.now c.args.way.now.course.now.setting.bound.now.fits c.args.way.now.row.now c.args.way.now.long (placed c.args.taken.now) c.requires.next.taken_fit c.args.atom c.requires.next.has c.args.kept.now c.loop-at.kept c.rows-rows.result c.args.places.now.start c.loop-at.at c.loop-at.done c.after-at.result c.loop-at.invariant.blocks
+            blocks = subst (λ (k : List (List Bool)). BlocksSoFar c.args.way.now.course.now.setting.bound.now.query.now c.args.way.now.course.now.setting.bound.now.db.now c.args.way.now.row.now (placed c.args.taken.now) c.args.atom c.args.kept.now k c.rows_of-rows.result c.args.places.now.start c.after-at.result c.if-at-done.done) (sym w.kept-is)
+                (subst (λ d. BlocksSoFar c.args.way.now.course.now.setting.bound.now.query.now c.args.way.now.course.now.setting.bound.now.db.now c.args.way.now.row.now (placed c.args.taken.now) c.args.atom c.args.kept.now c.loop-at.kept c.rows_of-rows.result c.args.places.now.start c.after-at.result d) (sym w.done-is)
+                (blocks-on c.args.way.now.course.now.setting.bound.now.query.now c.args.way.now.course.now.setting.bound.now.db.now c.args.way.now.course.now.setting.bound.now.fits c.args.way.now.row.now c.args.way.now.long (placed c.args.taken.now) c.requires.next.taken_fit c.args.atom c.requires.next.has c.args.kept.now c.loop-at.kept c.rows_of-rows.result c.args.places.now.start c.loop-at.at c.loop-at.done c.after-at.result c.loop-at.invariant.blocks
                 (omega (arith, w.if-at-done.false)) passed));
           }
     ]
@@ -239,9 +239,9 @@ mend_places-returns-in_err-mended-clause-mends t c =
       reached = reached-joined c.args.way.now.course.now.setting.bound.now.query.now c.args.way.now.course.now.setting.bound.now.db.now c.args.way.now.course.now.setting.bound.now.fits c.args.way.now.row.now c.args.way.now.long (placed c.args.taken.now) c.args.kept.now c.loop-at.kept c.mend_block.new.kept c.loop-at.invariant.blocks.reached c.mend_block.ensures.mends.reached;
       few = search rules;
       mended = search rules;
-      holds = λ e. block-holds c.args.way.now.course.now.setting.bound.now.query.now c.args.way.now.course.now.setting.bound.now.db.now c.args.way.now.course.now.setting.bound.now.fits c.args.way.now.row.now c.args.way.now.long (placed c.args.taken.now) c.requires.next.taken_fit c.args.atom c.requires.next.has c.args.rest.now c.rows-rows.result c.block_start-start.result c.block_end-done.result
-          (c.rows-rows.ensures.is ∙ ap (λ n. get_or (stored c.args.way.now.course.now.setting.bound.now.db.now) n []) c.table_of.ensures)
-          (subst (λ key. IsBlockBetween key c.rows-rows.result c.block_start-start.result c.block_end-done.result) c.key_columns-key.ensures c.block_end-done.ensures.block)
+      holds = λ e. block-holds c.args.way.now.course.now.setting.bound.now.query.now c.args.way.now.course.now.setting.bound.now.db.now c.args.way.now.course.now.setting.bound.now.fits c.args.way.now.row.now c.args.way.now.long (placed c.args.taken.now) c.requires.next.taken_fit c.args.atom c.requires.next.has c.args.rest.now c.rows_of-rows.result c.block_start-start.result c.block_end-done.result
+          c.rows_of-rows.ensures.rows
+          (subst (λ key. IsBlockBetween key c.rows_of-rows.result c.block_start-start.result c.block_end-done.result) c.key_of-key.ensures c.block_end-done.ensures.block)
           (c.mend_block.ensures.mends.holds (ap is_some c.in_err-mended.was));
     }
 
@@ -259,7 +259,7 @@ mend_places-returns-then-mended-before-clause-mends t c =
 
 pub mend_places-returns-clause-mends : goal.mend_places-returns-clause-mends
 mend_places-returns-clause-mends t c =
-    let is = c.rows-rows.ensures.is ∙ ap (λ n. get_or (stored c.args.way.now.course.now.setting.bound.now.db.now) n []) c.table_of.ensures in
+    let is = c.rows_of-rows.ensures.rows in
     let n = passed-count c.args.way.now.course.now (placed c.args.taken.now) (c.args.atom ∷ c.args.rest.now) c.requires.next.underway in
     let b = c.loop-at.invariant.blocks in
     record {
@@ -268,7 +268,7 @@ mend_places-returns-clause-mends t c =
       few = omega (arith, n);
       mended = none-whole c.args.way.now.course.now.setting.bound.now.query.now c.args.way.now.course.now.setting.bound.now.db.now c.args.way.now.row.now c.loop-at.kept (placed c.args.taken.now) _ (omega (arith, n))
           (blocks-all c.args.way.now.course.now.setting.bound.now.query.now c.args.way.now.course.now.setting.bound.now.db.now c.args.way.now.row.now (placed c.args.taken.now) c.args.atom c.requires.next.has c.args.kept.now c.loop-at.kept
-          c.rows-rows.result c.args.places.now.start c.args.places.now.end c.loop-at.at c.loop-at.done is
+          c.rows_of-rows.result c.args.places.now.start c.args.places.now.end c.loop-at.at c.loop-at.done is
           (subst (λ (rs : List (List Value)). (i : ℕ) → i < length rs → (i < c.args.places.now.start) ⊎ (c.args.places.now.end ≤ i) → IsInWitness c.args.way.now.course.now.setting.bound.now.query.now c.args.way.now.course.now.setting.bound.now.db.now c.args.way.now.row.now (placed c.args.taken.now) c.args.atom (get_or rs i []) → ⊥) (sym is)
           (outside-led c.args.way.now (placed c.args.taken.now) c.args.atom c.args.rest.now c.requires.next c.args.places.now c.requires.there))
           c.loop-at.invariant.blocks (omega (arith, c.loop-at-test.false)));
@@ -352,10 +352,10 @@ remembered-returns-in-None-clause-mends t c =
     subst (λ r. Mends c.args.way.now (placed c.args.taken.now) c.args.plan.now c.args.kept.now c.mend_anew.new.kept r) c.in-None.is c.mend_anew.ensures.mends
 
 pub mend_blocks-invariant_of-look : goal.mend_blocks-invariant_of-look
-mend_blocks-invariant_of-look t c = record { of_atoms = underway-taken c.args.way.now.course.now (placed c.args.taken.now) (c.args.atom ∷ c.args.rest.now) c.requires.next.underway; there = c.requires.next.there }
+mend_blocks-invariant_of-look t c = record { there = c.requires.next.there }
 
 pub row_mended-invariant_of-look : goal.row_mended-invariant_of-look
-row_mended-invariant_of-look t c = record { of_atoms = underway-taken c.args.way.now.course.now (placed c.args.taken.now) (c.args.atom ∷ c.args.rest.now) c.requires.next.underway; there = c.requires.next.there }
+row_mended-invariant_of-look t c = record { there = c.requires.next.there }
 
 pub mend_blocks-mend_places-mended-requires : goal.mend_blocks-mend_places-mended-requires
 mend_blocks-mend_places-mended-requires t c =

@@ -3,16 +3,8 @@ use Rattle.cqa_model.specs.Plan.{IsPlanOf}
 use Rattle.plan_rows.specs.Left.{AreQueryAtoms, AreSharedInParts}
 use Rattle.plan_rows.specs.Links.{AreWays}
 use Rattle.repair_back.specs.Apart.{AreEnough}
-use Rattle.repair_back.specs.Flags.{AreTablesOf}
-use Rattle.repair_back.proofs.Starting.{query-tables}
 use Rattle.repair_back.proofs.Apart.{plan-atoms}
 use Rattle.repair_back.proofs.mending.mend.Goals as goal
-
-pub enough_of-requires : goal.enough_of-requires
-enough_of-requires c = subst (AreQueryAtoms c.args.bound.now.query.now) (sym c.as_slice-order.ensures) (plan-atoms c.args.bound.now.query.now c.args.plan.now.order c.requires.plan)
-
-pub shared_or_none-shared-requires : goal.shared_or_none-shared-requires
-shared_or_none-shared-requires c = subst (AreQueryAtoms c.args.bound.now.query.now) (sym c.as_slice-order.ensures) (plan-atoms c.args.bound.now.query.now c.args.plan.now.order c.requires.plan)
 
 pub invariant_of-course : goal.invariant_of-course
 invariant_of-course c = record {
@@ -29,11 +21,6 @@ invariant_of-way c = record {
   long = c.requires.long;
   known = ∣ subst (AreEnough c.args.bound.now.query.now c.as_slice-order.result.now) (sym c.as_slice-3.ensures.value) c.in_ok-enough.ensures ∣₁;
 }
-
-pub blank-requires : goal.blank-requires
-blank-requires c =
-    let b = c.args.bound.now in
-    subst (AreTablesOf b.db.now) (sym (c.as_slice.ensures ∙ c.in_ok-tables.ensures)) (query-tables b.query.now b.db.now b.fits)
 
 pub mended-found-requires-clause-tables : goal.mended-found-requires-clause-tables
 mended-found-requires-clause-tables c = c.as_slice-4.ensures ∙ c.in_ok-tables.ensures

@@ -4,4 +4,4 @@ use Rattle.repair_back.proofs.way.brings.Given as goal
 
 -- no column so far brings anything
 abbrev pub invariant-loop-col : goal.invariant-loop-col
-invariant-loop-col l = (j : ℕ) → j < l.col → BringsNone l.setting.bound.now.query.now l.before (record { atom = l.atom; col = j }) l.rest
+invariant-loop-col l = (j : ℕ) → j < l.col → BringsNone l.bound.query.now l.before (record { atom = l.atom; col = j }) l.rest

@@ -6,7 +6,7 @@ use Rattle.repair_back.proofs.way.enough_at.Given as goal
 abbrev pub invariant-loop-enough : goal.invariant-loop-enough
 invariant-loop-enough l = record {
   within : l.enough ≤ l.place;
-  apart : (k : ℕ) → l.enough ≤ k → k < l.place → IsAtomApart l.setting.bound.now.query.now (take k l.order) (get_or l.order k 0) (drop l.place l.order);
+  apart : (k : ℕ) → l.enough ≤ k → k < l.place → IsAtomApart l.bound.query.now (take k l.order) (get_or l.order k 0) (drop l.place l.order);
 }
 
 abbrev pub decreases-loop-enough : goal.decreases-loop-enough

@@ -4,9 +4,6 @@ use Rattle.plan_rows.specs.Left.{AreQueryAtoms, AreSharedInParts}
 use Rattle.plan_rows.specs.Links.{AreWays}
 use Rattle.rewrite_text.proofs.printed.by_ways.Goals as goal
 
-pub shared_or_none-shared-requires : goal.shared_or_none-shared-requires
-shared_or_none-shared-requires c = subst (AreQueryAtoms c.args.bound.now.query.now) (sym c.as_slice-order.ensures) c.requires.plan
-
 pub invariant_of-course : goal.invariant_of-course
 invariant_of-course c = record {
   atoms = subst (AreQueryAtoms c.args.bound.now.query.now) (sym c.as_slice-order.ensures) c.requires.plan;

@@ -4,9 +4,6 @@ use Rattle.fo_rewrite.proofs.Distinct.{plan-atoms}
 use Rattle.rewrite_text.proofs.Made.{made_passes}
 use Rattle.rewrite_text.proofs.printed.certificate.Goals as goal
 
-pub paths_of-requires : goal.paths_of-requires
-paths_of-requires c = plan-atoms c.args.bound.now.query.now c.args.plan.now.order (plan-eliminates c.args.bound.now.query.now (whole c.args.bound.now.query.now) c.args.plan.now.order c.requires.plan)
-
 pub by_paths-text-requires-clause-plan : goal.by_paths-text-requires-clause-plan
 by_paths-text-requires-clause-plan c = plan-atoms c.args.bound.now.query.now c.args.plan.now.order (plan-eliminates c.args.bound.now.query.now (whole c.args.bound.now.query.now) c.args.plan.now.order c.requires.plan)
 

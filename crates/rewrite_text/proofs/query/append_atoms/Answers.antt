@@ -1,20 +1,9 @@
-use Rattle.std.proofs.Common.{◌≡◌, ◌∷◌, ◌++◌, ◌∙◌, Contains, ap, codes, rules, subst, sym}
+use Rattle.std.proofs.Common.{◌≡◌, ◌∷◌, ◌++◌, ◌∙◌, ap, codes, rules, sym}
 use Rattle.std.specs.List.{flat_map, join_by}
 use Rattle.std.proofs.lemmas.Result.{on_ok_weaker}
-use Rattle.cqa_model.proofs.Classic.{mem-head, mem-tail}
 use Rattle.rewrite_text.specs.Texts.{atom_name}
 use Rattle.rewrite_text.proofs.Drafting.{two_parts}
 use Rattle.rewrite_text.proofs.query.append_atoms.Goals as goal
-
-pub append_atom-requires : goal.append_atom-requires
-append_atom-requires c =
-    let e : c.args.atoms.now ≡ c.in-Some.first.now ∷ c.in-Some.rest.now = search rules in
-    c.requires c.in-Some.first.now (subst (λ z. Contains z c.in-Some.first.now) (sym e) (mem-head c.in-Some.first.now c.in-Some.rest.now))
-
-pub append_more_atoms-requires : goal.append_more_atoms-requires
-append_more_atoms-requires c =
-    let e : c.args.atoms.now ≡ c.in-Some.first.now ∷ c.in-Some.rest.now = search rules in
-    λ k m. c.requires k (subst (λ z. Contains z k) (sym e) (mem-tail k c.in-Some.first.now c.in-Some.rest.now m))
 
 pub returns : goal.returns
 returns c =

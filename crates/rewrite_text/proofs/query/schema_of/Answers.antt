@@ -1,4 +1,4 @@
-use Rattle.std.proofs.Common.{◌≡◌, IfSome, slice_get, subst}
+use Rattle.std.proofs.Common.{◌≡◌, ◌<◌, IfSome, length, slice_get, subst}
 use Rattle.cqa_model.specs.Database.{Table}
 use Rattle.cqa_model.specs.Query.{atom_at}
 use Rattle.rewrite_text.proofs.Schemas.{is_schema}
@@ -9,5 +9,5 @@ returns c =
     let db = c.args.bound.now.db.now in
     let q = c.args.bound.now.query.now in
     let schema = c.schema.result.now in
-    let is = subst (λ t. IfSome (slice_get db t) (λ (table : Table). schema ≡ table.schema)) c.table_of.ensures c.schema.ensures.is in
-    is_schema db (atom_at q c.args.atom).table schema (c.args.bound.now.fits.there c.args.atom c.requires) is
+    let is = subst (λ t. IfSome (slice_get db t) (λ (table : Table). schema ≡ table.schema)) c.table_of.ensures.table c.schema.ensures.is in
+    is_schema db (atom_at q c.args.atom).table schema (subst (λ t. t < length db) c.table_of.ensures.table c.table_of.ensures.there) is

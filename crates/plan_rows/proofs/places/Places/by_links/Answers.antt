@@ -1,12 +1,11 @@
 use Rattle.std.proofs.Common.{◌≡◌, inl, inr, length, ap, ◌∙◌, arith, le_of_eq}
-use Rattle.table_blocks.specs.Tables.{rows_at}
 use Rattle.plan_rows.specs.Over.{look_rows}
 use Rattle.plan_rows.proofs.places.Places.by_links.Goals as goal
 
 pub returns : goal.returns
 returns c =
     let look = c.args.look.now in
-    let size : c.len-end.result ≡ length (look_rows look) = c.len-end.ensures ∙ ap length (c.rows.ensures.is ∙ ap (rows_at look.setting.now.bound.now.db.now) c.table_of.ensures) in
+    let size : c.len-end.result ≡ length (look_rows look) = c.len-end.ensures ∙ ap length c.rows_of.ensures.rows in
     record {
       within = le_of_eq size;
       others = λ i l o f. elim o [
