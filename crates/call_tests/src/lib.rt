@@ -1,8 +1,10 @@
 //! Tests of calls that no script reaches, and of what no reply shows: a writer that is flushed, blocks of CSV, cursors over rows
-//! and blocks, look-ups in many rows, whether a row holds by a plan, the order in which atoms are taken, and the places of a
-//! witness's rows. Each call succeeds with ample memory, and with the answer that was worked out by hand.
+//! and blocks, look-ups in many rows, what is said of a query's atoms, whether a row holds by a plan, the order in which atoms are
+//! taken, and the places of a witness's rows. Each call succeeds with ample memory, and with the answer that was worked out by hand.
 #![tactic(auto)]
 
+#[cfg(test)]
+mod atoms;
 #[cfg(test)]
 mod csv_blocks;
 #[cfg(test)]
