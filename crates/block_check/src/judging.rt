@@ -10,7 +10,7 @@ use crate::marking::{Mark, marks};
 use crate::walk::tree;
 use block_tree::{BlockCause, Node, RewriteCheck};
 use cqa_value::{NoMemory, Row};
-use plan_rows::{Course, Rest, Setting, Taken};
+use plan_rows::{Course, JoinedColumns, Rest, Setting, Taken};
 use std::alloc::Global;
 use table_blocks::Bound;
 
@@ -80,6 +80,7 @@ pub fn judge_blocks<'x>(
         alloc,
         bound,
         paths: &[],
+        joined: JoinedColumns::new(bound),
     };
     judge_along(alloc, setting, order, row, nodes)
 }

@@ -19,7 +19,8 @@ use cqa_model::Plan;
 use cqa_value::{Items, Row};
 use join_access::RowIndex;
 use plan_rows::{
-    Candidates, Course, Link, Memo, Setting, Step, Taken, grouped_along, shared_or_none,
+    Candidates, Course, JoinedColumns, Link, Memo, Setting, Step, Taken, grouped_along,
+    shared_or_none,
 };
 use row_blocks::{block_end, block_start};
 use row_pieces::Rows;
@@ -138,6 +139,7 @@ pub fn block_of<'a>(
         alloc,
         bound: &*bound,
         paths: &*paths,
+        joined: JoinedColumns::new(bound),
     };
     match grouped_along(&setting, order, ways) {
         Some(grouped) => block_along(bound.db, setting, grouped.as_slice(), row, ways),

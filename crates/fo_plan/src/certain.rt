@@ -14,7 +14,9 @@ use crate::notes::Notes;
 use cqa_model::Plan;
 use cqa_value::{Items, NoMemory, Row};
 use join_access::RowIndex;
-use plan_rows::{Candidates, Course, Link, Memo, Rest, Setting, Taken, shared_columns};
+use plan_rows::{
+    Candidates, Course, JoinedColumns, Link, Memo, Rest, Setting, Taken, shared_columns,
+};
 use row_answers::Answers;
 use std::alloc::Global;
 use table_blocks::Bound;
@@ -44,6 +46,7 @@ pub fn answers(
         alloc,
         bound,
         paths,
+        joined: JoinedColumns::new(bound),
     };
     let shared = shared_columns(&setting, order)?;
     let course = Course {

@@ -13,7 +13,7 @@ ghost use Rattle.fo_plan.specs.Holding.{PlanRestHolds, PlanHoldsWith, AllHoldWit
 use crate::enough::Blocks;
 use cqa_model::Plan;
 use cqa_value::Row;
-use plan_rows::{Candidates, Course, Memo, Rest, Setting, Step, Taken, fits};
+use plan_rows::{Candidates, Course, JoinedColumns, Memo, Rest, Setting, Step, Taken, fits};
 use row_pieces::Rows;
 use std::alloc::Global;
 use table_blocks::Bound;
@@ -142,6 +142,7 @@ pub fn holds<'x>(alloc: Global, bound: &'x Bound<'x>, plan: &'x Plan, row: &'x R
         alloc,
         bound,
         paths: &[],
+        joined: JoinedColumns::new(bound),
     };
     let course = Course {
         setting,

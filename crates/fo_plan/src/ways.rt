@@ -9,7 +9,7 @@ use crate::links::telling_atoms;
 use crate::paths::{path_of, place_in};
 use cqa_model::{ColRef, Plan};
 use cqa_value::{Items, NoMemory};
-use plan_rows::{Link, Setting};
+use plan_rows::{JoinedColumns, Link, Setting};
 use std::alloc::Global;
 use table_blocks::Bound;
 
@@ -120,6 +120,7 @@ pub fn ways_of<'a>(
         alloc,
         bound,
         paths: &[],
+        joined: JoinedColumns::new(bound),
     };
     match add_ways(&setting, plan.order.as_slice(), given, &mut ways) {
         Ok(()) => Ok(ways),

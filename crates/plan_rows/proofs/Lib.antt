@@ -1,4 +1,5 @@
 pub mod Suiting
+pub mod Joining
 pub mod Telling
 pub mod PlanParts
 pub mod Columns

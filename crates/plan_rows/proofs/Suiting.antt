@@ -4,43 +4,21 @@ use Rattle.std.proofs.lemmas.Bool.{false≢true}
 use Rattle.std.specs.List.{All}
 use Rattle.std.proofs.lemmas.List.Elements.{All-contains, All-contains_itself, All-weaker}
 use Rattle.cqa_value.specs.declared.value.Value.{Value}
-use Rattle.cqa_model.specs.declared.query.ColRef.{ColRef}
-use Rattle.cqa_model.specs.declared.query.Cond.{Cond}
-use Rattle.cqa_model.specs.declared.query.Cond.TheVariants.{Join}
 use Rattle.cqa_model.specs.declared.query.Query.{Query}
-use Rattle.cqa_model.specs.Shape.{IsInRange}
 use Rattle.cqa_model.specs.Query.{atom_at}
-use Rattle.cqa_model.specs.Variables.{IsChain, IsLinked, AreLinked}
+use Rattle.cqa_model.specs.Variables.{AreLinked}
 use Rattle.cqa_model.specs.Plan.{Placed, Fits, TestHolds}
 use Rattle.cqa_model.proofs.Classic.{mem-head, mem-tail, mem-cases}
 use Rattle.cqa_model.proofs.Views.{linked-self}
 use Rattle.cqa_value.specs.Values.{nothing}
 use Rattle.plan_rows.specs.Taking.{AreAgreed}
-use Rattle.plan_rows.specs.Fitting.{LeavesOut, ColumnAgrees, AgreesInFirst, AgreesAll, Suits, GivesAt}
+use Rattle.plan_rows.specs.Fitting.{AgreesInFirst, AgreesAll, Suits, GivesAt}
 
 pub all_of : {A : Type 0} (P : A → Type 0) (xs : List A) → All P xs → (x : A) → Contains xs x → P x
 all_of P xs h x m = All-contains P xs x h m
 
 pub of_all : {A : Type 0} (P : A → Type 0) (xs : List A) → ((x : A) → Contains xs x → P x) → All P xs
 of_all P xs h = All-weaker (λ x. Contains xs x) P h xs (All-contains_itself xs)
-
--- a column that no condition joins is linked to itself alone
-alone-linked : (ks : List Cond) (c d : ColRef) → All (LeavesOut c) ks → IsLinked ks c d → c ≡ d
-alone-linked ks c d h (es, p) = go es p
-  where
-    go : (es : List ColRef) → IsChain ks c es d → c ≡ d
-    go [] e = e
-    go (e ∷ es) (inl m, more) = absurd ((all_of (LeavesOut c) ks h (Join c e) m).0 refl)
-    go (e ∷ es) (inr m, more) = absurd ((all_of (LeavesOut c) ks h (Join e c) m).1 refl)
-
-pub alone-agrees : (q : Query) (c : ColRef) (x y : List Value) (G : ℕ) → IsInRange q.atoms c → All (LeavesOut c) q.conds →
-    (c.atom ≡ G → get_or x c.col nothing ≡ get_or y c.col nothing) ↔ ColumnAgrees q x c y G (atom_at q G).width
-alone-agrees q c x y G there h = (
-  (λ same j l k.
-      let e : ◌≡◌ {A = ColRef} c (record { atom = G; col = j }) = alone-linked q.conds c (record { atom = G; col = j }) h k in
-      subst (λ z. get_or x c.col nothing ≡ get_or y z nothing) (λ i. (e i).col) (same (λ i. (e i).atom))),
-  (λ g e. g c.col (subst (λ z. c.col < (atom_at q z).width) e there.1) (subst (λ z. AreLinked q c (record { atom = z; col = c.col })) e (linked-self q c))),
-)
 
 module _ (q : Query) (F : ℕ) (x : List Value) (taken : List Placed) (t : Placed) (ts : List Placed) (e : taken ≡ t ∷ ts) where
   pub agrees-more : (a : Bool) → (a ≡ true) ↔ AgreesAll q F x ts → AgreesInFirst q F x t.atom t.row (atom_at q F).width → (a ≡ true) ↔ AgreesAll q F x taken

@@ -1,8 +1,7 @@
 -- When rows fit, part by part.
-use Rattle.std.specs.Prelude.{◌≡◌, ◌≢◌, ℕ, ◌<◌, List, ◌∷◌, length, slice_index_or, Contains}
+use Rattle.std.specs.Prelude.{◌≡◌, ℕ, ◌<◌, List, ◌∷◌, length, slice_index_or, Contains}
 use Rattle.cqa_value.specs.declared.value.Value.{Value}
 use Rattle.cqa_model.specs.declared.query.Cond.{Cond}
-use Rattle.cqa_model.specs.declared.query.Cond.TheVariants.{Join, Test}
 use Rattle.cqa_model.specs.declared.query.ColRef.{ColRef}
 use Rattle.cqa_model.specs.declared.query.Query.{Query}
 use Rattle.cqa_value.specs.Values.{nothing}
@@ -10,10 +9,9 @@ use Rattle.cqa_model.specs.Query.{atom_at}
 use Rattle.cqa_model.specs.Variables.{AreLinked}
 use Rattle.cqa_model.specs.Plan.{Placed, TestHolds, answer_at}
 
--- a condition doesn't join a column
-abbrev pub LeavesOut : ColRef → Cond → Type 0
-LeavesOut c (Join a b) = (a ≢ c) × (b ≢ c)
-LeavesOut c (Test a op x) = Unit {0}
+-- x and y have the same values in the first n columns
+abbrev pub AreSameFirst : List Value → List Value → ℕ → Type 0
+AreSameFirst x y n = (i : ℕ) → i < n → slice_index_or x i nothing ≡ slice_index_or y i nothing
 
 -- x has in a column the value that y has in each of the first n columns of G that are linked to it
 abbrev pub ColumnAgrees : Query → List Value → ColRef → List Value → ℕ → ℕ → Type 0

@@ -1,4 +1,5 @@
 pub mod Taking
+pub mod Joining
 pub mod Fitting
 pub mod Knowing
 pub mod Left

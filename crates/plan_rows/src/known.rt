@@ -14,12 +14,11 @@ ghost use Rattle.plan_rows.specs.Knowing.{MayFit};
 ghost use Rattle.plan_rows.specs.Over.{look_query, look_taken};
 
 use crate::look::Look;
-use crate::shared::are_linked;
+use crate::setting::Setting;
 use crate::taken_rows::Taken;
 use cqa_model::{ColRef, Cond, MOST_COLUMNS, Op, Query};
 use cqa_value::{Row, Value};
 use row_order::{Probe, cell};
-use table_blocks::Bound;
 
 /// The value that a test tells of a column.
 fn told_by(cond: &Cond, column: ColRef) -> Option<&Value>
@@ -48,32 +47,37 @@ fn told(conds: &[Cond], column: ColRef) -> Option<&Value>
 }
 
 /// The value that a row of an atom tells of a column: that of its own column which is linked to it.
-fn told_by_row<'b>(bound: &Bound<'_>, other: u32, row: &'b Row, column: ColRef) -> Option<&'b Value>
-    requires { IsInRange bound.now.query.now.atoms column }
-    ensures { IfSome result (λ value. (y : List Cell) → ColumnAgrees bound.now.query.now y column row.now other (atom_at bound.now.query.now other).width → slice_index_or y column.col nothing ≡ value.now) }
+fn told_by_row<'b>(
+    setting: &Setting<'_>,
+    other: u32,
+    row: &'b Row,
+    column: ColRef,
+) -> Option<&'b Value>
+    requires { IsInRange setting.now.bound.now.query.now.atoms column }
+    ensures { IfSome result (λ value. (y : List Cell) → ColumnAgrees setting.now.bound.now.query.now y column row.now other (atom_at setting.now.bound.now.query.now other).width → slice_index_or y column.col nothing ≡ value.now) }
 {
-    for j in 0..bound.width_of(other) {
-        let linked_column = ColRef {
-            atom: other,
-            col: j,
-        };
-        if are_linked(bound, column, linked_column) {
-            return cell(row, j);
+    if other == column.atom {
+        return cell(row, column.col);
+    }
+    let class = setting.bound.variables.class_of(column);
+    for joined in setting.joined.of_atom(other) {
+        if joined.class == class {
+            return cell(row, joined.col as u32);
         }
     }
     None
 }
 
 /// The value that some row taken tells of a column.
-fn told_by_taken<'b>(bound: &Bound<'_>, taken: &Taken<'b>, column: ColRef) -> Option<&'b Value>
-    requires { IsInRange bound.now.query.now.atoms column }
-    ensures { IfSome result (λ value. (y : List Cell) → AgreesAll bound.now.query.now column.atom y (placed taken.now) → slice_index_or y column.col nothing ≡ value.now) }
+fn told_by_taken<'b>(setting: &Setting<'_>, taken: &Taken<'b>, column: ColRef) -> Option<&'b Value>
+    requires { IsInRange setting.now.bound.now.query.now.atoms column }
+    ensures { IfSome result (λ value. (y : List Cell) → AgreesAll setting.now.bound.now.query.now column.atom y (placed taken.now) → slice_index_or y column.col nothing ≡ value.now) }
 {
     match taken {
         Taken::Nothing => None,
-        Taken::Before(other, row, before) => match told_by_row(bound, *other, row, column) {
+        Taken::Before(other, row, before) => match told_by_row(setting, *other, row, column) {
             Some(value) => Some(value),
-            None => told_by_taken(bound, before, column),
+            None => told_by_taken(setting, before, column),
         },
     }
 }
@@ -96,19 +100,19 @@ fn known<'b>(look: &Look<'b>, row: Option<&'b Row>, col: u32) -> Option<&'b Valu
     requires { col < (atom_at (look_query look.now) look.now.atom).width }
     ensures { IfSome result (λ value. (y : List Cell) → MayFit (look_query look.now) (option_copied row.entry) (look_taken look.now) look.now.atom y → slice_index_or y col nothing ≡ value.now) }
 {
-    let bound = look.setting.bound;
+    let query = look.setting.bound.query;
     let column = ColRef {
         atom: look.atom,
         col,
     };
-    if let Some(value) = told(bound.query.conds.as_slice(), column) {
+    if let Some(value) = told(query.conds.as_slice(), column) {
         return Some(value);
     }
-    if let Some(value) = told_by_taken(bound, look.taken, column) {
+    if let Some(value) = told_by_taken(look.setting, look.taken, column) {
         return Some(value);
     }
     match row {
-        Some(row) => told_by_answer(bound.query, row, column),
+        Some(row) => told_by_answer(query, row, column),
         None => None,
     }
 }

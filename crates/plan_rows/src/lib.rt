@@ -5,6 +5,7 @@
 mod course;
 mod fitting;
 mod grouped;
+mod joined;
 mod known;
 mod links;
 mod look;
@@ -22,6 +23,7 @@ mod wanted;
 pub use course::Course;
 pub use fitting::{fits, may_fit, suits};
 pub use grouped::grouped_along;
+pub use joined::{JoinedColumn, JoinedColumns};
 pub use known::known_values;
 pub use links::Link;
 pub use look::Look;

@@ -2,18 +2,23 @@
 
 ghost use Rattle.std.specs.Prelude.{◌≡◌, ◌<◌, IfSome, Some, None, length, slice_index_or};
 ghost use Rattle.join_access.specs.Spots.{ArePaths};
+ghost use Rattle.plan_rows.specs.Joining.{AreJoined, joined_once};
 
+use crate::joined::JoinedColumns;
 use join_access::RowIndex;
 use std::alloc::Global;
 use table_blocks::Bound;
 
-/// A query that fits a database, with indexes of the tables of its atoms, where there are some.
+/// A query that fits a database, with indexes of the tables of its atoms, where there are some, and the columns that its joins
+/// name.
 #[derive(Drop)]
 pub struct Setting<'a> {
     pub alloc: Global,
     pub bound: &'a Bound<'a>,
     pub paths: &'a [Option<RowIndex<'a>>],
+    pub joined: JoinedColumns,
     pub ghost indexed: { ArePaths bound.now.query.now bound.now.db.now paths.now },
+    pub ghost found: { AreJoined bound.now.query.now bound.now.variables joined } by { joined_once bound.now.query.now bound.now.variables joined },
 }
 
 /// The index at a place, if there is one.

@@ -31,7 +31,8 @@ use cqa_model::Plan;
 use cqa_value::{Items, NoMemory, Row};
 use join_access::RowIndex;
 use plan_rows::{
-    Candidates, Course, Link, Look, Memo, Places, Rest, Setting, Step, Taken, fits, shared_or_none,
+    Candidates, Course, JoinedColumns, Link, Look, Memo, Places, Rest, Setting, Step, Taken, fits,
+    shared_or_none,
 };
 use row_pieces::Rows;
 use std::alloc::Global;
@@ -362,6 +363,7 @@ pub fn mend(
         alloc,
         bound: &*bound,
         paths: &*paths,
+        joined: JoinedColumns::new(bound),
     };
     let enough = enough_of(&setting, order)?;
     let shared = shared_or_none(&setting, order);

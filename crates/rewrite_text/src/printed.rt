@@ -21,7 +21,9 @@ use cqa_model::Plan;
 use cqa_value::{Fail, Items, Row};
 use fo_plan::{paths_of, ways_of};
 use join_access::RowIndex;
-use plan_rows::{Candidates, Course, Link, Memo, Rest, Setting, Taken, shared_or_none};
+use plan_rows::{
+    Candidates, Course, JoinedColumns, Link, Memo, Rest, Setting, Taken, shared_or_none,
+};
 use std::alloc::Global;
 use table_blocks::Bound;
 
@@ -109,6 +111,7 @@ fn by_ways(
         alloc,
         bound: &*bound,
         paths: &*paths,
+        joined: JoinedColumns::new(bound),
     };
     let shared = shared_or_none(&setting, order);
     let course = Course {

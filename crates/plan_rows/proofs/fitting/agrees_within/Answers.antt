@@ -1,16 +1,18 @@
-use Rattle.std.proofs.Common.{◌<◌, below_more, refl, subst}
-use Rattle.std.specs.List.{All}
-use Rattle.plan_rows.specs.Fitting.{LeavesOut}
-use Rattle.table_blocks.proofs.Binding.{in-range}
-use Rattle.plan_rows.proofs.Suiting.{alone-agrees}
+use Rattle.std.proofs.Common.{refl}
+use Rattle.key_closure.proofs.Naming.{untold}
+use Rattle.plan_rows.specs.Joining.{joined_in}
+use Rattle.plan_rows.proofs.Joining.{joined-agrees, agrees-joined}
 use Rattle.plan_rows.proofs.fitting.agrees_within.Goals as goal
 
-pub column_agrees-requires : goal.column_agrees-requires
-column_agrees-requires c = in-range c.args.bound.now.query.now c.args.atom c.loop-col.col (subst (λ n. c.loop-col.col < n) c.width_of-width.ensures c.loop-col-test.true)
-
-pub loop-col-preserved-then-is_seen_alone : goal.loop-col-preserved-then-is_seen_alone
-loop-col-preserved-then-is_seen_alone c =
-    let q = c.args.bound.now.query.now in
-    let none = subst (All (LeavesOut (record { atom = c.args.atom; col = c.loop-col.col }))) c.as_slice-conds.ensures (c.is_seen_alone.ensures c.if-is_seen_alone.true) in
-    let there = in-range q c.args.atom c.loop-col.col (subst (λ n. c.loop-col.col < n) c.width_of-width.ensures c.loop-col-test.true) in
-    below_more _ _ c.loop-col.invariant ((alone-agrees q (record { atom = c.args.atom; col = c.loop-col.col }) c.args.x.now c.args.x.now c.args.atom there none).0 (λ e. refl))
+pub returns : goal.returns
+returns c =
+    let setting = c.args.setting.now in
+    let q = setting.bound.now.query.now in
+    let v = setting.bound.now.variables in
+    let hv = untold q v setting.bound.now.named in
+    let F = c.args.atom in
+    let own = joined_in setting.joined F in
+    let x = c.args.x.now in (
+      (λ t. joined-agrees q v hv F F own own (setting.found F) (setting.found F) x x (c.agrees_joined.ensures.0 t) (λ e i l. refl)),
+      (λ h. c.agrees_joined.ensures.1 (agrees-joined q v hv F F own own (setting.found F) (setting.found F) x x h)),
+    )

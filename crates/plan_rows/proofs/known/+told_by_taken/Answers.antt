@@ -11,11 +11,11 @@ told_by_taken-requires t c = (omega (arith, ap (λ z. length (placed z)) c.in-Be
 
 pub returns-in-Some : goal.returns-in-Some
 returns-in-Some t c = λ y all.
-    c.in-Some.ensures y (agrees-first c.args.bound.now.query.now c.args.column.atom y (placed c.args.taken.now) _ _ (ap placed c.in-Before.is) all c.args.column.col c.requires.1)
+    c.in-Some.ensures y (agrees-first c.args.setting.now.bound.now.query.now c.args.column.atom y (placed c.args.taken.now) _ _ (ap placed c.in-Before.is) all c.args.column.col c.requires.1)
 
 pub returns-in-None : goal.returns-in-None
 returns-in-None t c =
-    let q = c.args.bound.now.query.now in
+    let q = c.args.setting.now.bound.now.query.now in
     let F = c.args.column.atom in
     told-map
     (λ value. (y : List Cell) → AgreesAll q F y (placed c.in-Before.before.now) → get_or y c.args.column.col nothing ≡ value)

@@ -1,6 +1,0 @@
-use Rattle.plan_rows.specs.Fitting.{AgreesInFirst}
-use Rattle.plan_rows.proofs.fitting.agrees_within.Given as goal
-
--- the columns so far
-abbrev pub invariant-loop-col : goal.invariant-loop-col
-invariant-loop-col l = AgreesInFirst l.bound.query.now l.atom l.x l.atom l.x l.col
