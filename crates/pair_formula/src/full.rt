@@ -2,16 +2,13 @@
 //! time that doesn't grow with other blocks.
 //! Rows of one block stand side by side, so a block is full where a run of rows in witnesses has no row of the block beside it.
 
-ghost use Rattle.std.specs.Prelude.{◌≡◌, ◌+◌, ◌-◌, ◌*◌, ◌<◌, ◌≤◌, ◌↔◌, List, [], IfOk, IsTrue, length, slice_index};
-ghost use Rattle.std.specs.List.Sorted.{IsStrictlySortedBy};
-ghost use Rattle.cqa_model.specs.Database.{block_cmp};
+ghost use Rattle.std.specs.Prelude.{◌≡◌, ◌+◌, ◌-◌, ◌*◌, ◌<◌, ◌≤◌, ◌↔◌, [], IfOk, IsTrue, length, slice_index};
 ghost use Rattle.cqa_model.specs.declared.limits.TheConstants.{MOST_ROWS};
 ghost use Rattle.join_access.specs.Listing.{names_of};
 ghost use Rattle.row_lists.specs.Runs.{AreRowPlaces};
-ghost use Rattle.pair_formula.specs.Full.{AreFullOf, AreFullRuns, AreFullSpans, FollowsInBlock, HasNeighbour, IsInRow, IsRunAdded};
+ghost use Rattle.pair_formula.specs.Full.{AreFullOf, AreFullSpans, FollowsInBlock, HasNeighbour, IsInRow, IsRunAdded};
 
 use cqa_value::{Items, NoMemory};
-use repair_clauses::atom_of;
 use row_blocks::goes_on;
 use row_lists::numbering::Numbering;
 use row_lists::span::Span;
@@ -83,52 +80,31 @@ fn add_run(
     Ok(base + count)
 }
 
-/// The blocks of one table all of whose rows are at places, and how many variables come up to their end; their rows are
-/// numbered from `base` on.
-fn full_runs(
-    rows: &Rows<'_>,
-    key: &[u32],
-    atom: u32,
+/// The full blocks of one atom, and how many variables come up to their end; their rows are numbered from `base` on.
+fn full_of_atom(
+    witnesses: &RowWitnesses<'_>,
+    atom: usize,
     base: u32,
-    places: &[u32],
     spans: &mut Vec<Span>,
 ) -> Result<u32, NoMemory>
-    requires few { length rows.now ≤ MOST_ROWS }
+    requires there { atom < length witnesses.now.bound.now.query.now.atoms }
     requires small { base ≤ MOST_ROWS }
-    requires places { AreRowPlaces rows.now places.now }
-    requires order { IsStrictlySortedBy (block_cmp key.now) rows.now }
     requires none { spans.old.items ≡ [] }
-    ensures { IfOk result (λ vars. AreFullRuns key.now rows.now atom base places.now vars spans.new.items) }
+    ensures blocks { IfOk result (λ vars. AreFullOf witnesses.now.bound.now.query.now witnesses.now.bound.now.db.now (names_of witnesses.now.list) atom base vars spans.new.items) }
+    ensures small { IfOk result (λ vars. vars ≤ base + MOST_ROWS) }
 {
+    let rows = witnesses.bound.rows_of(atom as u32);
+    let key = witnesses.bound.key_of(atom as u32);
+    let places = witnesses.column(atom);
     let mut vars = base;
     let mut at = 0;
     while at < places.len() {
-        let end = run_end(rows, key, places, at);
+        let end = run_end(&rows, key, places, at);
         let start = places[at] as usize;
-        vars = add_run(rows, key, atom, vars, start, start + (end - at), spans)?;
+        let stop = start + (end - at);
+        vars = add_run(&rows, key, atom as u32, vars, start, stop, spans)?;
         at = end;
     }
-    Ok(vars)
-}
-
-/// The full blocks of one atom; their rows are numbered from `base` on.
-fn full_of_atom(
-    witnesses: &RowWitnesses<'_>,
-    at: usize,
-    base: u32,
-    spans: &mut Vec<Span>,
-) -> Result<u32, NoMemory>
-    requires there { at < length witnesses.now.bound.now.query.now.atoms }
-    requires small { base ≤ MOST_ROWS }
-    requires none { spans.old.items ≡ [] }
-    ensures blocks { IfOk result (λ vars. AreFullOf witnesses.now.bound.now.query.now witnesses.now.bound.now.db.now (names_of witnesses.now.list) at base vars spans.new.items) }
-    ensures small { IfOk result (λ vars. vars ≤ base + MOST_ROWS) }
-{
-    let bound = witnesses.bound;
-    let atom = atom_of(bound.query, at);
-    let rows = bound.db.rows(atom.table);
-    let places = witnesses.column(at);
-    let vars = full_runs(&rows, atom.key.as_slice(), at as u32, base, places, spans)?;
     Ok(vars)
 }
 

@@ -9,7 +9,6 @@ ghost use Rattle.repair_clauses.specs.Avoiding.{AreMarkedWitnesses};
 ghost use Rattle.row_lists.specs.Loose.{IsLooseAt};
 ghost use Rattle.row_witnesses.specs.Columns.{place_at};
 
-use crate::frame::atom_of;
 use cqa_value::NoMemory;
 use join_access::Witness;
 use row_lists::loosening::{is_loose, loose_places};
@@ -50,10 +49,10 @@ fn mark_atom(
     ensures size { IfOk result (λ done. length marks.new.items ≡ length witnesses.now.list) }
     ensures marks { IfOk result (λ done. AreMarkedWitnesses witnesses.now.bound.now.query.now witnesses.now.bound.now.db.now (names_of witnesses.now.list) marks.new.items) }
 {
-    let atom = atom_of(witnesses.bound.query, at);
     let places = witnesses.column(at);
-    let rows = witnesses.bound.db.rows(atom.table);
-    let loose = loose_places(alloc, &rows, atom.key.as_slice(), places)?;
+    let rows = witnesses.bound.rows_of(at as u32);
+    let key = witnesses.bound.key_of(at as u32);
+    let loose = loose_places(alloc, &rows, key, places)?;
     mark_witnesses(
         witnesses.list.as_slice(),
         at,

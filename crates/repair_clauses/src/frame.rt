@@ -1,23 +1,14 @@
 //! The tables of a query, in the order of its atoms: the frame in which the rows of its formulas are numbered.
 
-ghost use Rattle.std.specs.Prelude.{◌≡◌, ◌<◌, IfOk, length};
-ghost use Rattle.cqa_model.specs.Query.{atom_at};
+ghost use Rattle.std.specs.Prelude.{◌≡◌, IfOk, length};
 ghost use Rattle.row_lists.specs.Formulas.{IsFrame};
 ghost use Rattle.repair_clauses.specs.Frames.{tables_of};
 
-use cqa_model::{Atom, Query};
+use cqa_model::Query;
 use cqa_value::NoMemory;
 use row_lists::{Frame, frame_of};
 use std::alloc::Global;
 use table_blocks::Bound;
-
-/// The atom at a place of a query.
-pub fn atom_of(query: &Query, at: usize) -> &Atom
-    requires { at < length query.now.atoms }
-    ensures { result.now ≡ atom_at query.now at }
-{
-    &query.atoms.as_slice()[at]
-}
 
 /// The tables of a query's atoms, in their order.
 fn atom_tables(alloc: Global, query: &Query) -> Result<Vec<u32>, NoMemory>

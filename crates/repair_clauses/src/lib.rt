@@ -10,4 +10,4 @@ pub mod laws;
 
 pub use avoiding::are_avoidable;
 pub use formula::encode;
-pub use frame::{atom_of, query_frame};
+pub use frame::query_frame;

@@ -4,19 +4,17 @@ use Rattle.std.proofs.lemmas.List.Elements.{Contains-get_or}
 use native.Mathlib.Decide.{ℕ_discrete}
 use Rattle.cqa_value.specs.declared.value.Value.{Value}
 use Rattle.cqa_value.proofs.Words.{cases_le, member_place}
-use Rattle.cqa_model.specs.declared.query.Atom.{Atom}
 use Rattle.cqa_model.specs.declared.query.Query.{Query}
 use Rattle.cqa_model.specs.declared.query.RowId.{RowId}
 use Rattle.cqa_model.specs.Database.{Table, stored, keys_of}
 use Rattle.cqa_model.specs.Repairs.{SharesKey}
 use Rattle.cqa_model.specs.Query.{atom_at, atom_key, rows_of, FitsDatabase}
 use Rattle.join_access.specs.Listing.{no_name}
-use Rattle.table_blocks.specs.Tables.{rows_at}
 use Rattle.rows_against.specs.Against.{row_named, ComesBefore}
 use Rattle.rows_against.specs.Hits.{IsRival, IsHitBy}
-use Rattle.rows_against.specs.Parts.{kept_name_at, IsOfTable, IsBelow, IsTablePart, AreOfOwnBlocks, IsOtherIn, AreOthers}
+use Rattle.rows_against.specs.Parts.{kept_name_at, IsOfTable, IsBelow, IsTablePart, AreOfOwnBlocks, IsOtherIn}
 use Rattle.rows_against.specs.Chosen.{AreChosenAgainst}
-use Rattle.rows_against.specs.Numbers.{row_name, IsFrom, TableBeginsAt, AreRivals}
+use Rattle.rows_against.specs.Numbers.{row_name, IsFrom, TableBeginsAt}
 
 module _ (db : List Table) (q : Query) (fits : FitsDatabase q db) (all : List (List RowId)) (names : List RowId) (chosen : AreChosenAgainst db q all names) where
   its : (k : ℕ) → k < length names → Contains names (kept_name_at names k)
@@ -55,7 +53,7 @@ module _ (db : List Table) (q : Query) (fits : FitsDatabase q db) (all : List (L
     abbrev table : ℕ
     table = (atom_at q F).table
 
-    pub part : IsTablePart names from table
+    part : IsTablePart names from table
     part = record { within = begins.within; rising = rising }
       where
         rising : (j k : ℕ) → from ≤ j → j < k → IsOfTable names from table k → IsBelow names table (kept_name_at names k).place j
@@ -87,7 +85,7 @@ module _ (db : List Table) (q : Query) (fits : FitsDatabase q db) (all : List (L
     shares_is : (key : List ℕ) (a b x y : List Value) → key ≡ get_or (keys_of db) table [] → x ≡ a → y ≡ b → SharesKey key a b → SharesKey (get_or (keys_of db) table []) x y
     shares_is key a b x y ek ex ey s = subst (λ k. SharesKey k x y) ek (subst (λ z. SharesKey key x z) (sym ey) (subst (λ z. SharesKey key z b) (sym ex) s))
 
-    pub apart : AreOfOwnBlocks (atom_key q F) (rows_of q (stored db) F) names from table
+    apart : AreOfOwnBlocks (atom_key q F) (rows_of q (stored db) F) names from table
     apart = record {
       there = λ k of. subst (λ t. (kept_name_at names k).place < length (get_or (stored db) t [])) of.2 (chosen.stored (kept_name_at names k) (its k of.1)).1;
       apart = λ j k oj ok shares. distinct j k oj.1 ok.1 (chosen.apart (kept_name_at names j) (kept_name_at names k) (its j oj.1) (its k ok.1) (
@@ -110,7 +108,7 @@ module _ (db : List Table) (q : Query) (fits : FitsDatabase q db) (all : List (L
             let same : b.0 ≡ F = q.kept.apart b.0 F (omega (arith, below, here)) here (b.2 ∙ e) in
             absurd (omega (arith, below, same))
 
-    pub hit_by : (p : ℕ) (found : Option ℕ) → IsOtherIn (atom_key q F) (rows_of q (stored db) F) names from (row_name q F p) found → IsHitBy db names (row_name q F p) found
+    hit_by : (p : ℕ) (found : Option ℕ) → IsOtherIn (atom_key q F) (rows_of q (stored db) F) names from (row_name q F p) found → IsHitBy db names (row_name q F p) found
     hit_by p (Some k) (up, (l, e, shares), ne) = (
       l,
       (
@@ -144,8 +142,11 @@ module _ (db : List Table) (q : Query) (fits : FitsDatabase q db) (all : List (L
             )
 
     -- behind the names of the table
-    pub begins_next : (to : ℕ) → from ≤ to → to ≤ length names → ((k : ℕ) → from ≤ k → k < to → IsBelow names table (length (rows_of q (stored db) F)) k) →
-        ((k : ℕ) → to ≤ k → k < length names → IsBelow names table (length (rows_of q (stored db) F)) k → ⊥) → TableBeginsAt q names (F + 1) to
+    abbrev IsStepOver : ℕ → ℕ → Type 0
+    IsStepOver t count = (to : ℕ) → from ≤ to → to ≤ length names → ((k : ℕ) → from ≤ k → k < to → IsBelow names t count k) →
+        ((k : ℕ) → to ≤ k → k < length names → IsBelow names t count k → ⊥) → TableBeginsAt q names (F + 1) to
+
+    begins_next : IsStepOver table (length (rows_of q (stored db) F))
     begins_next to up within before behind = record {
       within = within;
       before = λ k l. go k l (cases_le from k);
@@ -165,37 +166,19 @@ module _ (db : List Table) (q : Query) (fits : FitsDatabase q db) (all : List (L
                 let its-table : (kept_name_at names k).table ≡ table = sym e ∙ ap (λ H. (atom_at q H).table) same in
                 absurd (behind k f l (its-table, subst (λ t. (kept_name_at names k).place < length (get_or (stored db) t [])) its-table (chosen.stored (kept_name_at names k) (its k l)).1))
 
-    -- the same at the atom, the key and the rows that are read
-    module _ (atom : Atom) (ea : atom ≡ atom_at q F) where
-      pub part_at : IsTablePart names from atom.table
-      part_at = subst (λ (a : Atom). IsTablePart names from a.table) (sym ea) part
+    -- the same at the table, the rows and the key that are read
+    module _ (t : ℕ) (et : t ≡ table) where
+      pub part_at : IsTablePart names from t
+      part_at = subst (IsTablePart names from) (sym et) part
 
-      module _ (key : List ℕ) (ek : key ≡ atom.key) (rows : List (List Value)) (er : rows ≡ rows_at db atom.table) where
-        key_is : key ≡ atom_key q F
-        key_is = ek ∙ ap (λ (a : Atom). a.key) ea
+      pub begins_behind : (count : ℕ) → count ≡ length (rows_of q (stored db) F) → IsStepOver t count
+      begins_behind count ec = subst (λ n. IsStepOver n count) (sym et) (subst (IsStepOver table) (sym ec) begins_next)
 
-        pub rows_are : rows ≡ rows_of q (stored db) F
-        rows_are = er ∙ ap (λ (a : Atom). rows_at db a.table) ea
+      module _ (rows : List (List Value)) (er : rows ≡ rows_of q (stored db) F) (key : List ℕ) (ek : key ≡ atom_key q F) where
+        pub apart_at : AreOfOwnBlocks key rows names from t
+        apart_at = subst (AreOfOwnBlocks key rows names from) (sym et) (subst (λ k. AreOfOwnBlocks k rows names from table) (sym ek) (subst (λ rs. AreOfOwnBlocks (atom_key q F) rs names from table) (sym er) apart))
 
-        pub apart_at : AreOfOwnBlocks key rows names from atom.table
-        apart_at = subst (λ (a : Atom). AreOfOwnBlocks key rows names from a.table) (sym ea)
-            (subst (λ k. AreOfOwnBlocks k rows names from table) (sym key_is) (subst (λ rs. AreOfOwnBlocks (atom_key q F) rs names from table) (sym rows_are) apart))
-
-        pub rivals_at : (places : List ℕ) (found : List (Option ℕ)) → AreOthers key rows names from atom.table places found → AreRivals db q names F places found
-        rivals_at places found others i l = hit_by (get_or places i 0) (get_or found i None)
-            (subst (λ k. IsOtherIn k (rows_of q (stored db) F) names from (row_name q F (get_or places i 0)) (get_or found i None)) key_is
-            (subst (λ rs. IsOtherIn key rs names from (row_name q F (get_or places i 0)) (get_or found i None)) rows_are
-            (subst (λ (a : Atom). IsOtherIn key rows names from (record { table = a.table; place = get_or places i 0 }) (get_or found i None)) ea (others i l))))
-
-      pub begins_behind : (count : ℕ) → count ≡ length (rows_at db atom.table) → (to : ℕ) → from ≤ to → to ≤ length names → ((k : ℕ) → from ≤ k → k < to → IsBelow names atom.table count k) →
-          ((k : ℕ) → to ≤ k → k < length names → IsBelow names atom.table count k → ⊥) → TableBeginsAt q names (F + 1) to
-      begins_behind count ec to up within before behind = begins_next to up within (λ k f l. subst (λ n. IsBelow names table n k) size (at k (before k f l))) (λ k f l below. behind k f l (back k (subst (λ n. IsBelow names table n k) (sym size) below)))
-        where
-          size : count ≡ length (rows_of q (stored db) F)
-          size = ec ∙ ap (λ (a : Atom). length (rows_at db a.table)) ea
-
-          at : (k : ℕ) → IsBelow names atom.table count k → IsBelow names table count k
-          at k below = subst (λ (a : Atom). IsBelow names a.table count k) ea below
-
-          back : (k : ℕ) → IsBelow names table count k → IsBelow names atom.table count k
-          back k below = subst (λ (a : Atom). IsBelow names a.table count k) (sym ea) below
+        pub hit_at : (p : ℕ) (found : Option ℕ) → IsOtherIn key rows names from (record { table = t; place = p }) found → IsHitBy db names (row_name q F p) found
+        hit_at p found other = hit_by p found
+            (subst (λ n. IsOtherIn (atom_key q F) (rows_of q (stored db) F) names from (record { table = n; place = p }) found) et
+            (subst (λ rs. IsOtherIn (atom_key q F) rs names from (record { table = t; place = p }) found) er (subst (λ k. IsOtherIn k rows names from (record { table = t; place = p }) found) ek other)))

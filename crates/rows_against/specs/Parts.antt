@@ -1,5 +1,5 @@
 -- The part of names in order that begins with those of one table.
-use Rattle.std.specs.Prelude.{◌≡◌, ◌≢◌, ℕ, ◌<◌, ◌≤◌, List, [], length, Option, Some, None, slice_index, slice_index_or}
+use Rattle.std.specs.Prelude.{◌≡◌, ◌≢◌, ℕ, ◌<◌, ◌≤◌, List, [], length, Option, Some, None, slice_index_or}
 use Rattle.cqa_value.specs.declared.value.Value.{Value}
 use Rattle.cqa_model.specs.declared.query.RowId.{RowId}
 use Rattle.cqa_model.specs.Repairs.{SharesKey}
@@ -38,7 +38,3 @@ IsOtherOfBlock key rows names from own k = (from ≤ k) × IsInBlock key rows na
 abbrev pub IsOtherIn : List ℕ → List (List Value) → List RowId → ℕ → RowId → Option ℕ → Type 0
 IsOtherIn key rows names from own (Some k) = IsOtherOfBlock key rows names from own k
 IsOtherIn key rows names from own None = (k : ℕ) → IsOtherOfBlock key rows names from own k → ⊥
-
--- the numbers of these names, for the rows at some places
-abbrev pub AreOthers : List ℕ → List (List Value) → List RowId → ℕ → ℕ → List ℕ → List (Option ℕ) → Type 0
-AreOthers key rows names from table places found = (i : ℕ) → i < length places → IsOtherIn key rows names from (record { table = table; place = slice_index places i }) (slice_index_or found i None)

@@ -2,24 +2,15 @@
 //! A row is looked for once for each row of the witnesses, and not for each witness.
 
 ghost use Rattle.std.specs.Prelude.{◌≡◌, ◌<◌, ◌+◌, ℕ, [], Contains, IfOk, None, length, slice_index, slice_index_or};
-ghost use Rattle.cqa_model.specs.Query.{atom_at};
 ghost use Rattle.join_access.specs.Listing.{names_of};
 ghost use Rattle.rows_against.specs.Chosen.{AreChosenAgainst};
 ghost use Rattle.rows_against.specs.Numbers.{AreHits, AreHitsAt, AreRivals, TableBeginsAt};
 
-use crate::rival::{first_from, rivals_of};
-use cqa_model::{Atom, Query, RowId};
+use crate::rival::{first_from, rival_of};
+use cqa_model::RowId;
 use cqa_value::{Items, NoMemory};
 use row_witnesses::{RowWitnesses, place_of};
 use std::alloc::Global;
-
-/// The atom at a place of a query.
-fn atom_of(query: &Query, at: usize) -> &Atom
-    requires { at < length query.now.atoms }
-    ensures { result.now ≡ atom_at query.now at }
-{
-    &query.atoms.as_slice()[at]
-}
 
 /// The numbers of the rows that are others of the blocks of the witnesses' rows of an atom, by their places.
 fn rivals(
@@ -35,11 +26,20 @@ fn rivals(
     ensures size { IfOk result (λ found. length found.items ≡ length (slice_index_or witnesses.now.columns at [])) }
     ensures rivals { IfOk result (λ found. AreRivals witnesses.now.bound.now.db.now witnesses.now.bound.now.query.now names.now at (slice_index_or witnesses.now.columns at []) found.items) }
 {
-    let atom = atom_of(witnesses.bound.query, at);
-    let rows = witnesses.bound.db.rows(atom.table);
-    let key = atom.key.as_slice();
+    let bound = witnesses.bound;
+    let rows = bound.rows_of(at as u32);
+    let key = bound.key_of(at as u32);
+    let table = bound.table_of(at as u32);
     let places = witnesses.column(at);
-    rivals_of(alloc, &rows, key, names, from, atom.table, places)
+    let mut found = Vec::with_capacity(alloc, places.len())?;
+    for place in places {
+        let own = RowId {
+            table,
+            place: *place,
+        };
+        found.push(rival_of(&rows, key, names, from, own))?;
+    }
+    Ok(found)
 }
 
 /// The number that stands at the index of a place.
@@ -87,8 +87,8 @@ fn behind(witnesses: &RowWitnesses<'_>, at: usize, names: &[RowId], from: usize)
     requires begins { TableBeginsAt witnesses.now.bound.now.query.now names.now at from }
     ensures { TableBeginsAt witnesses.now.bound.now.query.now names.now (at + 1) result }
 {
-    let table = atom_of(witnesses.bound.query, at).table;
-    let count = witnesses.bound.db.rows(table).len();
+    let table = witnesses.bound.table_of(at as u32);
+    let count = witnesses.bound.rows_of(at as u32).len();
     first_from(names, from, table, count as u32)
 }
 

@@ -1,16 +1,14 @@
 //! The kept row of a block, where it is another than a given one, among names in order.
 //! It is found by halving, so that names that matter for no witness aren't walked.
 
-ghost use Rattle.std.specs.Prelude.{◌≡◌, ◌≤◌, ◌<◌, ◌↔◌, ℕ, IfOk, IsTrue, length, slice_index};
+ghost use Rattle.std.specs.Prelude.{◌≡◌, ◌≤◌, ◌<◌, ◌↔◌, ℕ, IsTrue, length};
 ghost use Rattle.std.specs.List.Sorted.{IsStrictlySortedBy};
 ghost use Rattle.cqa_model.specs.Database.{block_cmp};
-ghost use Rattle.rows_against.specs.Parts.{AreOfOwnBlocks, AreOthers, IsBelow, IsInBlock, IsOtherIn, IsTablePart, kept_name_at};
+ghost use Rattle.rows_against.specs.Parts.{AreOfOwnBlocks, IsBelow, IsInBlock, IsOtherIn, IsTablePart, kept_name_at};
 
 use cqa_model::RowId;
-use cqa_value::NoMemory;
 use row_blocks::goes_on;
 use row_pieces::Rows;
-use std::alloc::Global;
 
 /// Whether a name is of a table, at a place before another.
 fn is_below(names: &[RowId], at: usize, table: u32, place: u32) -> bool
@@ -55,7 +53,13 @@ fn is_in_block(rows: &Rows<'_>, key: &[u32], names: &[RowId], at: usize, own: Ro
 }
 
 /// The number of the name that is another row of a row's block.
-fn rival_of(rows: &Rows<'_>, key: &[u32], names: &[RowId], from: usize, own: RowId) -> Option<usize>
+pub(crate) fn rival_of(
+    rows: &Rows<'_>,
+    key: &[u32],
+    names: &[RowId],
+    from: usize,
+    own: RowId,
+) -> Option<usize>
     requires order { IsStrictlySortedBy (block_cmp key.now) rows.now }
     requires there { own.place < length rows.now }
     requires part { IsTablePart names.now from own.table }
@@ -75,36 +79,4 @@ fn rival_of(rows: &Rows<'_>, key: &[u32], names: &[RowId], from: usize, own: Row
     } else {
         None
     }
-}
-
-/// The numbers of the names that are other rows of the blocks of a table's rows at some places.
-///
-/// # Errors
-///
-/// `NoMemory` where memory is refused.
-pub(crate) fn rivals_of(
-    alloc: Global,
-    rows: &Rows<'_>,
-    key: &[u32],
-    names: &[RowId],
-    from: usize,
-    table: u32,
-    places: &[u32],
-) -> Result<Vec<Option<usize>>, NoMemory>
-    requires order { IsStrictlySortedBy (block_cmp key.now) rows.now }
-    requires there { (i : ℕ) → i < length places.now → slice_index places.now i < length rows.now }
-    requires part { IsTablePart names.now from table }
-    requires apart { AreOfOwnBlocks key.now rows.now names.now from table }
-    ensures size { IfOk result (λ found. length found.items ≡ length places.now) }
-    ensures others { IfOk result (λ found. AreOthers key.now rows.now names.now from table places.now found.items) }
-{
-    let mut found = Vec::with_capacity(alloc, places.len())?;
-    for place in places {
-        let own = RowId {
-            table,
-            place: *place,
-        };
-        found.push(rival_of(rows, key, names, from, own))?;
-    }
-    Ok(found)
 }

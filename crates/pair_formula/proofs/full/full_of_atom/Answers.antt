@@ -1,28 +1,50 @@
-use Rattle.std.proofs.Common.{◌∙◌, ap, sym, subst}
-use Rattle.cqa_model.specs.declared.query.Atom.{Atom}
-use Rattle.table_blocks.specs.Tables.{rows_at}
+use Rattle.std.proofs.Common.{sym, subst, arith}
+use Rattle.std.specs.List.Sorted.{IsStrictlySortedBy}
+use Rattle.cqa_model.specs.Database.{block_cmp, stored}
+use Rattle.cqa_model.specs.Query.{rows_of}
 use Rattle.join_access.specs.Listing.{names_of}
 use Rattle.row_witnesses.proofs.Told.{all_names}
 use Rattle.row_lists.specs.Runs.{AreRowPlaces}
 use Rattle.repair_clauses.proofs.Naming.{are_places}
 use Rattle.pair_formula.specs.Full.{AreFullRuns}
+use Rattle.pair_formula.proofs.FullRuns.{AreFullTo, full-none, full-more, full-all}
 use Rattle.pair_formula.proofs.full.full_of_atom.Goals as goal
 
-pub full_runs-requires-clause-places : goal.full_runs-requires-clause-places
-full_runs-requires-clause-places c =
+pub loop-at-init : goal.loop-at-init
+loop-at-init c =
     let w = c.args.witnesses.now in
-    let db = w.bound.now.db.now in
+    let b = w.bound.now in
+    let key = c.key_of-key.result.now in
+    let rows = c.rows_of-rows.result in
     let places = c.column-places.result.now in
-    let rows = c.rows-rows.ensures.is ∙ ap (λ (a : Atom). rows_at db a.table) c.atom_of-atom.ensures in
-    subst (λ x. AreRowPlaces x places) (sym rows) (are_places w.bound.now.query.now db w.row.now (names_of w.list) (all_names w) c.args.at c.requires.there places c.column-places.ensures.column)
+    record {
+      places = subst (λ x. AreRowPlaces x places) (sym c.rows_of-rows.ensures.rows)
+          (are_places b.query.now b.db.now w.row.now (names_of w.list) (all_names w) c.args.atom c.requires.there places c.column-places.ensures.column);
+      done = subst (AreFullTo key rows places c.args.atom c.args.base 0 c.args.base) (sym c.requires.none) (full-none key rows places c.args.atom c.args.base);
+    }
+
+pub loop-at-preserved : goal.loop-at-preserved
+loop-at-preserved c =
+    let key = c.key_of-key.result.now in
+    let rows = c.rows_of-rows.result in
+    let order = subst (λ k. IsStrictlySortedBy (block_cmp k) rows) (sym c.key_of-key.ensures) (c.rows_of-rows.ensures.in_order c.requires.there) in
+    let v = c.loop-at.invariant in
+    let e = c.run_end-end.ensures in
+    record {
+      places = v.places;
+      done = full-more key rows c.column-places.result.now order v.places c.args.atom c.args.base c.loop-at.at c.loop-at.vars c.loop-at.spans.items v.done
+          (omega (arith, c.loop-at-test.true)) c.run_end-end.result e.some e.within e.run e.stops c.in_ok-vars.vars c.add_run.new.spans.items c.in_ok-vars.ensures;
+    }
 
 pub returns-clause-blocks : goal.returns-clause-blocks
 returns-clause-blocks c =
-    let db = c.args.witnesses.now.bound.now.db.now in
-    let n = c.args.at in
+    let b = c.args.witnesses.now.bound.now in
+    let n = c.args.atom in
+    let key = c.key_of-key.result.now in
+    let rows = rows_of b.query.now (stored b.db.now) n in
     let places = c.column-places.result.now in
-    let vars = c.in_ok-vars.vars in
-    let spans = c.full_runs.new.spans.items in
-    let r_key = subst (λ k. AreFullRuns k c.rows-rows.result n c.args.base places vars spans) c.as_slice.ensures c.in_ok-vars.ensures in
-    let r_rows = subst (λ x. AreFullRuns c.atom_of-atom.result.now.key x n c.args.base places vars spans) c.rows-rows.ensures.is r_key in
-    (places, c.column-places.ensures.column, subst (λ (a : Atom). AreFullRuns a.key (rows_at db a.table) n c.args.base places vars spans) c.atom_of-atom.ensures r_rows)
+    let vars = c.loop-at.vars in
+    let spans = c.loop-at.spans.items in
+    let full = full-all key c.rows_of-rows.result places n c.args.base c.loop-at.at vars spans c.loop-at.invariant.done (omega (arith, c.loop-at-test.false)) in
+    let of_rows = subst (λ rs. AreFullRuns key rs n c.args.base places vars spans) c.rows_of-rows.ensures.rows full in
+    (places, c.column-places.ensures.column, subst (λ k. AreFullRuns k rows n c.args.base places vars spans) c.key_of-key.ensures of_rows)
