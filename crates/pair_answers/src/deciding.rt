@@ -13,7 +13,7 @@ use cqa_model::RowId;
 use cqa_value::{Items, NoMemory, Row};
 use std::alloc::Global;
 use weak_pairs::laws::pair_decided;
-use weak_pairs::{Decision, are_certain, decide_rows};
+use weak_pairs::{Decision, NumberedRows, are_certain, decide_rows};
 
 /// A repair of a query's tables: the rows that it keeps, in `from` order and block order.
 #[derive(Drop)]
@@ -56,8 +56,13 @@ pub fn is_certain<'a>(alloc: Global, pair: &'a PairQuery<'a>, row: &Row) -> Resu
     let columns = both_columns(alloc, pair)?;
     let lists = row_lists(alloc, pair, row, &columns)?;
     pair_decided();
-    let blocks = starts.first.len() as u32 - 1;
-    let certain = are_certain(alloc, &lists, &starts.first, blocks, starts.split);
+    let rows = NumberedRows {
+        lists: &lists,
+        start: &starts.first,
+        blocks: starts.first.len() as u32 - 1,
+        split: starts.split,
+    };
+    let certain = are_certain(alloc, &rows);
     drop(lists);
     certain
 }
@@ -75,8 +80,13 @@ fn decide_numbers<'a>(
     let columns = both_columns(alloc, pair)?;
     let lists = row_lists(alloc, pair, row, &columns)?;
     pair_decided();
-    let blocks = starts.first.len() as u32 - 1;
-    decide_rows(alloc, &lists, &starts.first, blocks, starts.split)
+    let rows = NumberedRows {
+        lists: &lists,
+        start: &starts.first,
+        blocks: starts.first.len() as u32 - 1,
+        split: starts.split,
+    };
+    decide_rows(alloc, &rows)
 }
 
 /// The names of the rows that blocks took.

@@ -16,7 +16,7 @@ use crate::side::Side;
 use cqa_value::{NoMemory, Row};
 use row_pieces::Rows;
 use std::alloc::Global;
-use weak_pairs::{Lists, Picked, code};
+use weak_pairs::{ListForm, Lists, Picked, code};
 
 /// The columns of each atom of variables that both have, in one order.
 #[derive(Drop)]
@@ -62,14 +62,17 @@ pub(crate) fn row_lists<'a>(
     columns: &'a Columns,
 ) -> Result<Lists<'a>, NoMemory>
     requires { AreColumnPairs pair.now.bound.now.query.now columns.now.left.items columns.now.right.items }
-    ensures lists { IfOk result (λ lists. AreRowLists pair.now.bound.now.query.now (stored pair.now.bound.now.db.now) row.now (lists_in lists)) }
-    ensures few { IfOk result (λ lists. length (lists_in lists) ≤ MOST_ROWS + MOST_ROWS) }
+    ensures { IfOk result (λ lists. AreRowLists pair.now.bound.now.query.now (stored pair.now.bound.now.db.now) row.now (lists_in lists.form)) }
 {
     match packed_lists(alloc, pair, row, columns)? {
-        Some(codes) => Ok(Lists::Packed(codes)),
+        Some(codes) => Ok(Lists {
+            form: ListForm::Packed(codes),
+        }),
         None => {
             let lists = borrowed_lists(alloc, pair, row, columns)?;
-            Ok(Lists::Borrowed(lists))
+            Ok(Lists {
+                form: ListForm::Borrowed(lists),
+            })
         }
     }
 }

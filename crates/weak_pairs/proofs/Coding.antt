@@ -7,8 +7,8 @@ use Rattle.std.proofs.lemmas.Bool.{eq-eqb, eqb-true, cases_lt}
 use Rattle.std.proofs.lemmas.List.{get_or_past}
 use Rattle.cqa_value.specs.declared.value.Value.{Value}
 use Rattle.weak_pairs.specs.declared.packed.TheConstants.{HALF, MULTIPLIER, SHIFT}
-use Rattle.weak_pairs.specs.declared.lists.Lists.{Lists}
-use Rattle.weak_pairs.specs.declared.lists.Lists.TheVariants.{Packed, Borrowed}
+use Rattle.weak_pairs.specs.declared.lists.ListForm.{ListForm}
+use Rattle.weak_pairs.specs.declared.lists.ListForm.TheVariants.{Packed, Borrowed}
 use Rattle.weak_pairs.specs.Packing.{integer_of, list_of, bucket_of_code}
 use Rattle.value_numbers.specs.Digests.{digest}
 use Rattle.weak_pairs.specs.Digests.{bucket_of, bucket_of_list, lists_in}
@@ -59,17 +59,17 @@ pub same-code : (codes : List ℕ) (i j : ℕ) → HaveOne (map list_of codes) i
 same-code codes i j (x, xi, xj) = one-code (get_or codes i 0) (get_or codes j 0) x (sym (code-at codes i) ∙ xi) (sym (code-at codes j) ∙ xj)
 
 -- rows with one list are in one bucket
-one-bucket : (buckets : ℕ) (lists : Lists) (i j : ℕ) → HaveOne (lists_in lists) i j → bucket_of buckets lists i ≡ bucket_of buckets lists j
+one-bucket : (buckets : ℕ) (lists : ListForm) (i j : ℕ) → HaveOne (lists_in lists) i j → bucket_of buckets lists i ≡ bucket_of buckets lists j
 one-bucket buckets (Packed codes) i j h = ap (bucket_of_code buckets) (same-code codes.items i j h)
 one-bucket buckets (Borrowed lists) i j (x, xi, xj) = ap (bucket_of_list buckets) (xi ∙ sym xj)
 
 -- a row with a list is in some bucket
-in-some : (lists : Lists) (i : ℕ) → HaveOne (lists_in lists) i i → bucket_of (length (lists_in lists)) lists i < length (lists_in lists)
+in-some : (lists : ListForm) (i : ℕ) → HaveOne (lists_in lists) i i → bucket_of (length (lists_in lists)) lists i < length (lists_in lists)
 in-some (Packed codes) i (x, xi, _) =
     some-bucket (length (map list_of codes.items)) (get_or codes.items i 0) (omega (arith, long (map list_of codes.items) i x xi)) (some-code (get_or codes.items i 0) x (sym (code-at codes.items i) ∙ xi))
 in-some (Borrowed lists) i (x, xi, _) = subst (λ z. bucket_of_list (length lists.items) z < length lists.items) (sym xi) (mod-lt (digest x) (omega (arith, long lists.items i x xi)))
 
-module _ (lists : Lists) (buckets : List ℕ) (size : length buckets ≡ length (lists_in lists))
+module _ (lists : ListForm) (buckets : List ℕ) (size : length buckets ≡ length (lists_in lists))
     (are : (i : ℕ) → i < length (lists_in lists) → get_or buckets i 0 ≡ bucket_of (length (lists_in lists)) lists i) where
   pub by-hash : AreBuckets (lists_in lists) buckets
   by-hash = record {

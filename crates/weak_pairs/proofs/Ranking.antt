@@ -10,26 +10,26 @@ use Rattle.std.proofs.lemmas.Cmp.{on_total, nat_cmp_total, tied_itself}
 use Rattle.std.proofs.lemmas.List.Sorted.{Contains-permutation, length_permutation, ranks_by, sorted_far}
 use Rattle.std.proofs.lemmas.List.Elements.{Contains-get_or}
 use Rattle.cqa_value.specs.Values.{row_cmp, row_cmp_total}
-use Rattle.weak_pairs.specs.declared.lists.Lists.{Lists}
-use Rattle.weak_pairs.specs.declared.lists.Lists.TheVariants.{Packed, Borrowed}
+use Rattle.weak_pairs.specs.declared.lists.ListForm.{ListForm}
+use Rattle.weak_pairs.specs.declared.lists.ListForm.TheVariants.{Packed, Borrowed}
 use Rattle.weak_pairs.specs.Digests.{lists_in}
 use Rattle.weak_pairs.specs.EdgeNumbers.{AreBuckets, HaveOne}
 use Rattle.weak_pairs.specs.Ranks.{AreInOrder, IsRank, list_cmp}
 use Rattle.weak_pairs.proofs.Coding.{long, same-code}
 
-list_total : (lists : Lists) → IsTotalOrder (list_cmp lists)
+list_total : (lists : ListForm) → IsTotalOrder (list_cmp lists)
 list_total (Packed codes) = on_total (λ i. get_or codes.items i 0) nat_cmp_total
 list_total (Borrowed lists) = on_total (λ i. get_or lists.items i None) (options_total row_cmp_total)
 
-pub list_ranks : (lists : Lists) → IsStrictWeakOrder (λ i j. is_lt (list_cmp lists i j))
+pub list_ranks : (lists : ListForm) → IsStrictWeakOrder (λ i j. is_lt (list_cmp lists i j))
 list_ranks lists = ranks_by (list_total lists) (λ i. i)
 
 -- rows with one list compare alike
-alike : (lists : Lists) (i j : ℕ) → HaveOne (lists_in lists) i j → (p : ℕ) → list_cmp lists p i ≡ list_cmp lists p j
+alike : (lists : ListForm) (i j : ℕ) → HaveOne (lists_in lists) i j → (p : ℕ) → list_cmp lists p i ≡ list_cmp lists p j
 alike (Packed codes) i j h p = ap (nat_cmp (get_or codes.items p 0)) (same-code codes.items i j h)
 alike (Borrowed lists) i j (x, xi, xj) p = ap (option_cmp row_cmp (get_or lists.items p None)) (xi ∙ sym xj)
 
-module _ (lists : Lists) (order : List ℕ) where
+module _ (lists : ListForm) (order : List ℕ) where
   abbrev lt : ℕ → ℕ → Bool
   lt i j = is_lt (list_cmp lists i j)
 
@@ -53,7 +53,7 @@ module _ (lists : Lists) (order : List ℕ) where
   not-below i j r s h a b lr ls l = true≢false (sym (b.0 r 0 (omega arith) l) ∙ ap is_lt (sym (alike lists i j h (get_or order r 0))) ∙ a.1 r 0 (omega arith) (omega (arith, l, ls)))
 
 -- places that were sorted are in order
-pub ordered : (lists : Lists) (places order : List ℕ) → length places ≡ length (lists_in lists) → ((i : ℕ) → i < length (lists_in lists) → get_or places i 0 ≡ i) →
+pub ordered : (lists : ListForm) (places order : List ℕ) → length places ≡ length (lists_in lists) → ((i : ℕ) → i < length (lists_in lists) → get_or places i 0 ≡ i) →
     IsPermutation places order → IsSortedBy (λ i j. is_lt (list_cmp lists i j)) order → AreInOrder lists order
 ordered lists places order size each same sorted = record {
   sorted = sorted;
@@ -61,7 +61,7 @@ ordered lists places order size each same sorted = record {
   size = length_permutation places order same ∙ size;
 }
 
-module _ (lists : Lists) (order ranks : List ℕ) (size : length ranks ≡ length (lists_in lists)) (o : AreInOrder lists order)
+module _ (lists : ListForm) (order ranks : List ℕ) (size : length ranks ≡ length (lists_in lists)) (o : AreInOrder lists order)
     (are : (i : ℕ) → i < length (lists_in lists) → HaveOne (lists_in lists) i i → IsRank lists order i (get_or ranks i 0) × (get_or ranks i 0 < length (lists_in lists))) where
   pub by-order : AreBuckets (lists_in lists) ranks
   by-order = record {

@@ -1,7 +1,7 @@
 //! Numbering the edges of rows.
 //! Rows with one list of values have one edge, and each row without a list has an edge of its own.
 
-ghost use Rattle.std.specs.Prelude.{◌≡◌, ◌<◌, ◌^◌, ℕ, IfOk, length, slice_index};
+ghost use Rattle.std.specs.Prelude.{◌≡◌, ◌<◌, ℕ, IfOk, length, slice_index};
 ghost use Rattle.weak_pairs.specs.Digests.{lists_in};
 ghost use Rattle.weak_pairs.specs.EdgeNumbers.{AreBuckets, AreChainedByLists, IsLinked, IsNextNumber};
 ghost use Rattle.weak_pairs.specs.Numbering.{AreEdges};
@@ -28,8 +28,7 @@ fn link(last: &mut [u32], bucket: usize, next: u32) -> u32
 
 /// The bucket of each row by its hash.
 fn buckets(alloc: Global, lists: &Lists<'_>) -> Result<Vec<u32>, NoMemory>
-    requires { length (lists_in lists.now) < 2 ^ 32 }
-    ensures { IfOk result (λ buckets. AreBuckets (lists_in lists.now) buckets.items) }
+    ensures { IfOk result (λ buckets. AreBuckets (lists_in lists.now.form) buckets.items) }
 {
     let mut buckets = Vec::with_capacity(alloc, lists.len())?;
     for at in 0..lists.len() {
@@ -40,9 +39,8 @@ fn buckets(alloc: Global, lists: &Lists<'_>) -> Result<Vec<u32>, NoMemory>
 
 /// Rows chained in their buckets: for each row the place behind the last row before it in its bucket, and 0 where there is none.
 fn chains(alloc: Global, lists: &Lists<'_>, buckets: Vec<u32>) -> Result<Vec<u32>, NoMemory>
-    requires few { length (lists_in lists.now) < 2 ^ 32 }
-    requires buckets { AreBuckets (lists_in lists.now) buckets.items }
-    ensures { IfOk result (λ before. AreChainedByLists (lists_in lists.now) before.items) }
+    requires { AreBuckets (lists_in lists.now.form) buckets.items }
+    ensures { IfOk result (λ before. AreChainedByLists (lists_in lists.now.form) before.items) }
 {
     let mut ends = vec![in alloc; 0; buckets.len()]?;
     let last = ends.as_mut_slice();
@@ -63,10 +61,10 @@ fn number(
     count: u32,
     budget: &mut u64,
 ) -> u32
-    requires there { at < length (lists_in lists.now) }
-    requires chained { AreChainedByLists (lists_in lists.now) before.now }
+    requires there { at < length (lists_in lists.now.form) }
+    requires chained { AreChainedByLists (lists_in lists.now.form) before.now }
     requires numbered { length edge.now ≡ at }
-    ensures { IsNextNumber (lists_in lists.now) edge.now at count result }
+    ensures { IsNextNumber (lists_in lists.now.form) edge.now at count result }
 {
     let mut left = before[at as usize];
     'back: while left > 0 {
@@ -90,11 +88,10 @@ fn number(
 ///
 /// `NoMemory` where memory is refused.
 pub fn edge_numbers(alloc: Global, lists: &Lists<'_>) -> Result<(Vec<u32>, u32), NoMemory>
-    requires { length (lists_in lists.now) < 2 ^ 32 }
-    ensures edges { IfOk result (λ r. AreEdges (lists_in lists.now) (length (lists_in lists.now)) r.0.items) }
-    ensures size { IfOk result (λ r. length r.0.items ≡ length (lists_in lists.now)) }
-    ensures small { IfOk result (λ r. (i : ℕ) → i < length (lists_in lists.now) → slice_index r.0.items i < r.1) }
-    ensures used { IfOk result (λ r. (e : ℕ) → e < r.1 → (i : ℕ) × (i < length (lists_in lists.now)) × (slice_index r.0.items i ≡ e)) }
+    ensures edges { IfOk result (λ r. AreEdges (lists_in lists.now.form) (length (lists_in lists.now.form)) r.0.items) }
+    ensures size { IfOk result (λ r. length r.0.items ≡ length (lists_in lists.now.form)) }
+    ensures small { IfOk result (λ r. (i : ℕ) → i < length (lists_in lists.now.form) → slice_index r.0.items i < r.1) }
+    ensures used { IfOk result (λ r. (e : ℕ) → e < r.1 → (i : ℕ) × (i < length (lists_in lists.now.form)) × (slice_index r.0.items i ≡ e)) }
 {
     let mut before = chains(alloc, lists, buckets(alloc, lists)?)?;
     let mut edge = Vec::with_capacity(alloc, lists.len())?;

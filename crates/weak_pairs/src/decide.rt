@@ -2,15 +2,15 @@
 //! Edges are numbered, their ends found, and a row is chosen of each block, all in a time linear in the rows, as long as the
 //! hashes of their values spread.
 
-ghost use Rattle.std.specs.Prelude.{◌≡◌, ◌+◌, ◌<◌, ◌^◌, IfOk, length};
+ghost use Rattle.std.specs.Prelude.{IfOk};
 ghost use Rattle.weak_pairs.specs.Digests.{lists_in};
-ghost use Rattle.weak_pairs.specs.Outcomes.{AreSided, AreStarts, IsPairDecision, TellsCertainty};
+ghost use Rattle.weak_pairs.specs.Outcomes.{IsPairDecision, TellsCertainty};
 
 use crate::chains::edge_numbers;
 use crate::graph::Graph;
 use crate::layout::edge_ends;
-use crate::lists::Lists;
 use crate::outcome::{Outcome, choose, is_blocked};
+use crate::rows::NumberedRows;
 use cqa_value::NoMemory;
 use std::alloc::Global;
 
@@ -27,26 +27,16 @@ pub enum Decision {
 /// # Errors
 ///
 /// `NoMemory` where memory is refused.
-pub fn decide_rows(
-    alloc: Global,
-    lists: &Lists<'_>,
-    start: &[u32],
-    blocks: u32,
-    split: u32,
-) -> Result<Decision, NoMemory>
-    requires few { length (lists_in lists.now) < 2 ^ 32 }
-    requires blocks { blocks + 1 ≡ length start.now }
-    requires starts { AreStarts start.now (length (lists_in lists.now)) }
-    requires sided { AreSided (lists_in lists.now) start.now split }
-    ensures { IfOk result (IsPairDecision (lists_in lists.now) start.now) }
+pub fn decide_rows(alloc: Global, rows: &NumberedRows<'_, '_>) -> Result<Decision, NoMemory>
+    ensures { IfOk result (IsPairDecision (lists_in rows.now.lists.now.form) rows.now.start.now) }
 {
-    let (edge, count) = edge_numbers(alloc, lists)?;
-    let ends = edge_ends(alloc, start, &edge, blocks, split, count)?;
+    let (edge, count) = edge_numbers(alloc, rows.lists)?;
+    let ends = edge_ends(alloc, rows.start, &edge, rows.blocks, rows.split, count)?;
     let graph = Graph {
-        start,
+        start: rows.start,
         edge: &edge,
         ends: &ends,
-        blocks,
+        blocks: rows.blocks,
     };
     match choose(alloc, &graph)? {
         Outcome::Blocked(_, _) => Ok(Decision::Certain),
@@ -59,26 +49,16 @@ pub fn decide_rows(
 /// # Errors
 ///
 /// `NoMemory` where memory is refused.
-pub fn are_certain(
-    alloc: Global,
-    lists: &Lists<'_>,
-    start: &[u32],
-    blocks: u32,
-    split: u32,
-) -> Result<bool, NoMemory>
-    requires few { length (lists_in lists.now) < 2 ^ 32 }
-    requires blocks { blocks + 1 ≡ length start.now }
-    requires starts { AreStarts start.now (length (lists_in lists.now)) }
-    requires sided { AreSided (lists_in lists.now) start.now split }
-    ensures { IfOk result (TellsCertainty (lists_in lists.now) start.now) }
+pub fn are_certain(alloc: Global, rows: &NumberedRows<'_, '_>) -> Result<bool, NoMemory>
+    ensures { IfOk result (TellsCertainty (lists_in rows.now.lists.now.form) rows.now.start.now) }
 {
-    let (edge, count) = edge_numbers(alloc, lists)?;
-    let ends = edge_ends(alloc, start, &edge, blocks, split, count)?;
+    let (edge, count) = edge_numbers(alloc, rows.lists)?;
+    let ends = edge_ends(alloc, rows.start, &edge, rows.blocks, rows.split, count)?;
     let graph = Graph {
-        start,
+        start: rows.start,
         edge: &edge,
         ends: &ends,
-        blocks,
+        blocks: rows.blocks,
     };
     let blocked = is_blocked(alloc, &graph)?;
     Ok(blocked)

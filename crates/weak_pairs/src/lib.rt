@@ -14,13 +14,15 @@ mod packed;
 mod peel;
 mod picked;
 mod ranks;
+mod rows;
 mod walk;
 
 pub use chains::edge_numbers;
 pub use decide::{Decision, are_certain, decide_rows};
 pub use graph::{Ends, Graph};
 pub use layout::edge_ends;
-pub use lists::Lists;
+pub use lists::{ListForm, Lists};
 pub use outcome::{Outcome, choose};
 pub use packed::code;
 pub use picked::Picked;
+pub use rows::NumberedRows;

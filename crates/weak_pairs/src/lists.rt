@@ -12,9 +12,16 @@ use std::cmp::Ordering;
 
 /// The lists of rows, one after the other: each by its code, where all have one, or else each borrowed from its row.
 #[derive(Drop)]
-pub enum Lists<'a> {
+pub enum ListForm<'a> {
     Packed(Vec<u64>),
     Borrowed(Vec<Option<Picked<'a>>>),
+}
+
+/// The lists of rows, so few that each row has a number.
+#[derive(Drop)]
+pub struct Lists<'a> {
+    pub form: ListForm<'a>,
+    pub ghost few: { length (lists_in form) < 2 ^ 32 },
 }
 
 /// Whether two codes are of one list.
@@ -30,24 +37,23 @@ fn have_one_code(codes: &[u64], i: u32, j: u32) -> bool
 impl<'a> Lists<'a> {
     /// How many rows there are.
     pub fn len(&self) -> usize
-        ensures { result ≡ length (lists_in self.now) }
+        ensures { result ≡ length (lists_in self.now.form) }
     {
-        match self {
-            Lists::Packed(codes) => codes.len(),
-            Lists::Borrowed(lists) => lists.len(),
+        match &self.form {
+            ListForm::Packed(codes) => codes.len(),
+            ListForm::Borrowed(lists) => lists.len(),
         }
     }
 
     /// The bucket of the list of a row, of as many as there are rows; what is no list is in none.
     pub(crate) fn bucket(&self, at: usize) -> usize
-        requires there { at < length (lists_in self.now) }
-        requires few { length (lists_in self.now) < 2 ^ 32 }
-        ensures is { result ≡ bucket_of (length (lists_in self.now)) self.now at }
-        ensures within { result ≤ length (lists_in self.now) }
+        requires there { at < length (lists_in self.now.form) }
+        ensures is { result ≡ bucket_of (length (lists_in self.now.form)) self.now.form at }
+        ensures within { result ≤ length (lists_in self.now.form) }
     {
-        match self {
-            Lists::Packed(codes) => code_bucket(codes[at], codes.len()),
-            Lists::Borrowed(lists) => match &lists[at] {
+        match &self.form {
+            ListForm::Packed(codes) => code_bucket(codes[at], codes.len()),
+            ListForm::Borrowed(lists) => match &lists[at] {
                 None => lists.len(),
                 Some(values) => (values.digest() % lists.len() as u64) as usize,
             },
@@ -57,13 +63,13 @@ impl<'a> Lists<'a> {
     /// Whether two rows have one list. (Numbering rows is a third slower where this is a call.)
     #[inline(always)]
     pub(crate) fn have_one(&self, i: u32, j: u32) -> bool
-        requires first { i < length (lists_in self.now) }
-        requires second { j < length (lists_in self.now) }
-        ensures { IsTrue result ↔ HaveOne (lists_in self.now) i j }
+        requires first { i < length (lists_in self.now.form) }
+        requires second { j < length (lists_in self.now.form) }
+        ensures { IsTrue result ↔ HaveOne (lists_in self.now.form) i j }
     {
-        match self {
-            Lists::Packed(codes) => have_one_code(codes, i, j),
-            Lists::Borrowed(lists) => match (&lists[i as usize], &lists[j as usize]) {
+        match &self.form {
+            ListForm::Packed(codes) => have_one_code(codes, i, j),
+            ListForm::Borrowed(lists) => match (&lists[i as usize], &lists[j as usize]) {
                 (Some(x), Some(y)) => x.is_same(y),
                 _ => false,
             },
@@ -72,14 +78,14 @@ impl<'a> Lists<'a> {
 
     /// Compares the lists of two rows. What is no list comes first.
     pub(crate) fn compare(&self, i: u32, j: u32) -> Ordering
-        ensures { result ≡ list_cmp self.now i j }
+        ensures { result ≡ list_cmp self.now.form i j }
     {
-        match self {
-            Lists::Packed(codes) => {
+        match &self.form {
+            ListForm::Packed(codes) => {
                 let one = codes.get(i as usize).unwrap_or(&0);
                 one.cmp(codes.get(j as usize).unwrap_or(&0))
             }
-            Lists::Borrowed(lists) => {
+            ListForm::Borrowed(lists) => {
                 let one = lists.get(i as usize).unwrap_or(&None);
                 let other = lists.get(j as usize).unwrap_or(&None);
                 match (one, other) {

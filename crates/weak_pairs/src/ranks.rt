@@ -1,7 +1,7 @@
 //! Buckets by order: the bucket of a row's list is how many rows have lesser lists.
 //! They cost a sort, and no values bring different lists into one bucket.
 
-ghost use Rattle.std.specs.Prelude.{◌≡◌, ◌<◌, ◌^◌, IfOk, length};
+ghost use Rattle.std.specs.Prelude.{◌≡◌, ◌<◌, IfOk, length};
 ghost use Rattle.std.specs.List.Sorted.{IsPermutation, IsSortedBy};
 ghost use Rattle.std.specs.Ordering.{is_lt};
 ghost use Rattle.weak_pairs.specs.Digests.{lists_in};
@@ -16,19 +16,18 @@ use std::cmp::Ordering;
 /// Puts rows in the order of their lists.
 fn put_in_order(lists: &Lists<'_>, places: &mut Vec<u32>)
     ensures same { IsPermutation places.old.items places.new.items }
-    ensures sorted { IsSortedBy (λ i j. is_lt (list_cmp lists.now i j)) places.new.items }
+    ensures sorted { IsSortedBy (λ i j. is_lt (list_cmp lists.now.form i j)) places.new.items }
 {
     places.sort_unstable_by(
         |i, j| -> Ordering
-            ensures { result ≡ list_cmp lists.entry.now i.now j.now }
+            ensures { result ≡ list_cmp lists.entry.now.form i.now j.now }
         { lists.compare(*i, *j) },
     );
 }
 
 /// All rows in the order of their lists.
 fn in_order(alloc: Global, lists: &Lists<'_>) -> Result<Vec<u32>, NoMemory>
-    requires { length (lists_in lists.now) < 2 ^ 32 }
-    ensures { IfOk result (λ order. AreInOrder lists.now order.items) }
+    ensures { IfOk result (λ order. AreInOrder lists.now.form order.items) }
 {
     let mut order = Vec::with_capacity(alloc, lists.len())?;
     for at in 0..lists.len() as u32 {
@@ -40,17 +39,16 @@ fn in_order(alloc: Global, lists: &Lists<'_>) -> Result<Vec<u32>, NoMemory>
 
 /// The bucket of a row: how many rows have a list that is less than its own. A row without a list is in none.
 fn bucket(lists: &Lists<'_>, order: &[u32], at: u32) -> u32
-    requires few { length (lists_in lists.now) < 2 ^ 32 }
-    requires there { at < length (lists_in lists.now) }
-    requires ordered { AreInOrder lists.now order.now }
-    ensures { HaveOne (lists_in lists.now) at at → IsRank lists.now order.now at result × (result < length (lists_in lists.now)) }
+    requires there { at < length (lists_in lists.now.form) }
+    requires ordered { AreInOrder lists.now.form order.now }
+    ensures { HaveOne (lists_in lists.now.form) at at → IsRank lists.now.form order.now at result × (result < length (lists_in lists.now.form)) }
 {
     if !lists.have_one(at, at) {
         return lists.len() as u32;
     }
     order.partition_point(
         |place| -> bool
-            ensures { result ≡ is_lt (list_cmp lists.entry.now place.now at) }
+            ensures { result ≡ is_lt (list_cmp lists.entry.now.form place.now at) }
         { lists.compare(*place, at).is_lt() },
     ) as u32
 }
@@ -58,8 +56,7 @@ fn bucket(lists: &Lists<'_>, order: &[u32], at: u32) -> u32
 /// The bucket of each row by the order of lists. (This is rare, so it stays out of the loop that calls it.)
 #[inline(never)]
 pub(crate) fn ranks(alloc: Global, lists: &Lists<'_>) -> Result<Vec<u32>, NoMemory>
-    requires { length (lists_in lists.now) < 2 ^ 32 }
-    ensures { IfOk result (λ ranks. AreBuckets (lists_in lists.now) ranks.items) }
+    ensures { IfOk result (λ ranks. AreBuckets (lists_in lists.now.form) ranks.items) }
 {
     let order = in_order(alloc, lists)?;
     let mut ranks = Vec::with_capacity(alloc, lists.len())?;

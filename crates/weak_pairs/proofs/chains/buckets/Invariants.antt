@@ -6,5 +6,5 @@ use Rattle.weak_pairs.proofs.chains.buckets.Given as goal
 abbrev pub invariant-loop-at : goal.invariant-loop-at
 invariant-loop-at l = record {
   size : length l.buckets.items ≡ l.at;
-  are : (i : ℕ) → i < l.at → slice_index l.buckets.items i ≡ bucket_of (length (lists_in l.lists)) l.lists i;
+  are : (i : ℕ) → i < l.at → slice_index l.buckets.items i ≡ bucket_of (length (lists_in l.lists.form)) l.lists.form i;
 }

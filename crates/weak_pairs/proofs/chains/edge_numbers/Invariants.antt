@@ -4,6 +4,6 @@ use Rattle.weak_pairs.proofs.chains.edge_numbers.Given as goal
 
 abbrev pub invariant-loop-at : goal.invariant-loop-at
 invariant-loop-at l = record {
-  chained : AreChainedByLists (lists_in l.lists) l.before.items;
-  numbered : AreNumbersSoFar (lists_in l.lists) l.at l.edge.items l.count;
+  chained : AreChainedByLists (lists_in l.lists.form) l.before.items;
+  numbered : AreNumbersSoFar (lists_in l.lists.form) l.at l.edge.items l.count;
 }

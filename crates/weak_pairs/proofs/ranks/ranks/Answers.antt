@@ -8,7 +8,7 @@ use Rattle.weak_pairs.proofs.ranks.ranks.Goals as goal
 
 pub loop-at-preserved : goal.loop-at-preserved
 loop-at-preserved c =
-    let lists = c.args.lists.now in
+    let lists = c.args.lists.now.form in
     let order = c.in_ok-order.order.items in
     let old = c.loop-at.ranks.items in
     let at = c.loop-at.at in
@@ -25,7 +25,7 @@ loop-at-preserved c =
 
 pub returns : goal.returns
 returns c =
-    let lists = c.args.lists.now in
+    let lists = c.args.lists.now.form in
     let i = c.loop-at.invariant in
     let end : c.loop-at.at ≡ length (lists_in lists) = (let a = c.loop-at-test.false in let b = c.loop-at.auto.at-end in omega arith) in
     by-order lists c.in_ok-order.order.items c.loop-at.ranks.items (i.size ∙ end) c.in_ok-order.ensures (λ k l. i.are k (omega (arith, end, l)))

@@ -8,5 +8,5 @@ use Rattle.weak_pairs.proofs.ranks.ranks.Given as goal
 abbrev pub invariant-loop-at : goal.invariant-loop-at
 invariant-loop-at l = record {
   size : length l.ranks.items ≡ l.at;
-  are : (i : ℕ) → i < l.at → HaveOne (lists_in l.lists) i i → IsRank l.lists l.order.items i (slice_index l.ranks.items i) × (slice_index l.ranks.items i < length (lists_in l.lists));
+  are : (i : ℕ) → i < l.at → HaveOne (lists_in l.lists.form) i i → IsRank l.lists.form l.order.items i (slice_index l.ranks.items i) × (slice_index l.ranks.items i < length (lists_in l.lists.form));
 }
