@@ -16,7 +16,6 @@ use Rattle.cqa_model.specs.declared.query.Query.{Query}
 use Rattle.cqa_model.specs.declared.variable_class.Variables.{Variables}
 use Rattle.cqa_model.specs.Naming.{AreVariables, class_at}
 use Rattle.cqa_model.specs.Query.{atom_at}
-use Rattle.cqa_model.specs.Shape.{IsInRange}
 use Rattle.cqa_model.specs.Variables.{IsChain, IsLinked, AreLinked}
 use Rattle.cqa_model.proofs.Classic.{mem-head, mem-cases, dec_some}
 use Rattle.cqa_model.proofs.Columns.{class-linked, linked-class}
@@ -25,7 +24,7 @@ use Rattle.table_blocks.proofs.Binding.{in-range, past-atoms}
 use Rattle.plan_rows.specs.declared.joined.JoinedColumn.{JoinedColumn}
 use Rattle.plan_rows.specs.declared.joined.JoinedColumns.{JoinedColumns}
 use Rattle.plan_rows.specs.Joining.{LeavesOut, AreJoinedFirst, AreJoinedIn, AgreesAt, AgreesInJoined, joined_in}
-use Rattle.plan_rows.specs.Fitting.{AreSameFirst, AgreesInFirst}
+use Rattle.plan_rows.specs.Fitting.{HaveSameFirst, AgreesInFirst}
 use Rattle.plan_rows.proofs.Suiting.{all_of, of_all}
 
 -- a column that no condition joins is linked to itself alone
@@ -92,7 +91,7 @@ module _ (q : Query) (v : Variables) (F : ℕ) where
 
 -- rows agree where they do in the columns that joins name, and rows of one atom in all
 module _ (q : Query) (v : Variables) (hv : AreVariables q v) (F G : ℕ) (own others : List JoinedColumn) (hf : AreJoinedIn q v F own) (hg : AreJoinedIn q v G others) (x y : List Value) where
-  pub joined-agrees : AgreesInJoined x own y others → (F ≡ G → AreSameFirst x y (atom_at q F).width) → AgreesInFirst q F x G y (atom_at q F).width
+  pub joined-agrees : AgreesInJoined x own y others → (F ≡ G → HaveSameFirst x y (atom_at q F).width) → AgreesInFirst q F x G y (atom_at q F).width
   joined-agrees h same i l j k linked = go (dec_some (λ (a : JoinedColumn). a.col ≡ i) (λ a. ℕ_discrete a.col i) own) (dec_some (λ (b : JoinedColumn). b.col ≡ j) (λ b. ℕ_discrete b.col j) others)
     where
       c : ColRef
@@ -121,5 +120,5 @@ module _ (q : Query) (v : Variables) (hv : AreVariables q v) (F G : ℕ) (own ot
 
 -- rows of one atom that agree do in every column
 module _ (q : Query) (F G : ℕ) (x y : List Value) where
-  pub agrees-same : F ≡ G → AgreesInFirst q F x G y (atom_at q F).width → AreSameFirst x y (atom_at q F).width
+  pub agrees-same : F ≡ G → AgreesInFirst q F x G y (atom_at q F).width → HaveSameFirst x y (atom_at q F).width
   agrees-same e h i l = h i l i (subst (λ z. i < (atom_at q z).width) e l) (subst (λ z. AreLinked q (record { atom = F; col = i }) (record { atom = z; col = i })) e (linked-self q (record { atom = F; col = i })))

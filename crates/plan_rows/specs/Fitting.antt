@@ -10,8 +10,8 @@ use Rattle.cqa_model.specs.Variables.{AreLinked}
 use Rattle.cqa_model.specs.Plan.{Placed, TestHolds, answer_at}
 
 -- x and y have the same values in the first n columns
-abbrev pub AreSameFirst : List Value → List Value → ℕ → Type 0
-AreSameFirst x y n = (i : ℕ) → i < n → slice_index_or x i nothing ≡ slice_index_or y i nothing
+abbrev pub HaveSameFirst : List Value → List Value → ℕ → Type 0
+HaveSameFirst x y n = (i : ℕ) → i < n → slice_index_or x i nothing ≡ slice_index_or y i nothing
 
 -- x has in a column the value that y has in each of the first n columns of G that are linked to it
 abbrev pub ColumnAgrees : Query → List Value → ColRef → List Value → ℕ → ℕ → Type 0

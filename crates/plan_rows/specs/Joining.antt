@@ -19,8 +19,7 @@ abbrev pub LeavesOut : ColRef → Cond → Type 0
 LeavesOut c (Join a b) = (a ≢ c) × (b ≢ c)
 LeavesOut c (Test a op x) = Unit {0}
 
--- of the first n columns of F those that a join may name: each with the class of its variable, and a column that isn't among
--- them is linked to none but itself
+-- columns among the first n of F, each with the class of its variable; any other of the first n is linked to none but itself
 pub record AreJoinedFirst (q : Query) (v : Variables) (F n : ℕ) (joined : List JoinedColumn) : Type 0 where
   pub within : (a : JoinedColumn) → Contains joined a → a.col < n
   pub named : (a : JoinedColumn) → Contains joined a → a.class ≡ class_at v (record { atom = F; col = a.col })
@@ -30,7 +29,7 @@ pub record AreJoinedFirst (q : Query) (v : Variables) (F n : ℕ) (joined : List
 abbrev pub AreJoinedIn : Query → Variables → ℕ → List JoinedColumn → Type 0
 AreJoinedIn q v F joined = AreJoinedFirst q v F (atom_at q F).width joined
 
--- the list of an atom; none of one that isn't there
+-- the list of an atom; empty for one that isn't there
 abbrev pub joined_in : JoinedColumns → ℕ → List JoinedColumn
 joined_in joined F = (slice_index_or joined.atoms.items F (record { items = [] })).items
 
@@ -38,14 +37,14 @@ joined_in joined F = (slice_index_or joined.atoms.items F (record { items = [] }
 abbrev pub AreJoined : Query → Variables → JoinedColumns → Type 0
 AreJoined q v joined = (F : ℕ) → AreJoinedIn q v F (joined_in joined F)
 
--- and in one way at most
+-- there is at most one proof of it
 pub joined_once : (q : Query) (v : Variables) (joined : JoinedColumns) → IsProp (AreJoined q v joined)
 joined_once q v joined = hlevel props
 
--- a row x has in a column of a variable the value that y has in one, if the variable is the same
+-- x has in its column the value that y has in the other, if the two are of one variable
 abbrev pub AgreesAt : JoinedColumn → List Value → List Value → JoinedColumn → Type 0
 AgreesAt a x y b = a.class ≡ b.class → slice_index_or x a.col nothing ≡ slice_index_or y b.col nothing
 
--- so it is for each two of these columns
+-- so it is for each column of the one list with each of the other
 abbrev pub AgreesInJoined : List Value → List JoinedColumn → List Value → List JoinedColumn → Type 0
 AgreesInJoined x own y others = All (λ a. All (AgreesAt a x y) others) own

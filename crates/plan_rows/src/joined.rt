@@ -1,16 +1,17 @@
-//! The columns of a query's atoms that joins name, found once: in these alone do rows have to agree.
+//! The columns of a query's atoms that joins name, found once. Rows of different atoms have to agree in these alone.
 
 ghost use Rattle.std.specs.Prelude.{◌≡◌, ◌↔◌, IsTrue, All};
 ghost use Rattle.plan_rows.specs.Joining.{LeavesOut, AreJoinedIn, AreJoined, joined_in};
 
 use arrayvec::ArrayVec;
-use cqa_model::{ColRef, Cond, MOST_COLUMNS};
-use join_access::LONGEST_WITNESS;
+use cqa_model::{ColRef, Cond, MOST_ATOMS, MOST_COLUMNS};
 use table_blocks::Bound;
+
+const ATOMS: usize = MOST_ATOMS as usize;
 
 /// The place of a column of an atom, and the class of its variable.
 #[derive(Clone, Copy, Default, Drop)]
-pub struct JoinedColumn {
+pub(crate) struct JoinedColumn {
     pub col: u8,
     pub class: u8,
 }
@@ -18,7 +19,7 @@ pub struct JoinedColumn {
 /// For each atom of a query those of its columns that a join names. They take no memory.
 #[derive(Drop)]
 pub struct JoinedColumns {
-    atoms: ArrayVec<ArrayVec<JoinedColumn, MOST_COLUMNS>, LONGEST_WITNESS>,
+    atoms: ArrayVec<ArrayVec<JoinedColumn, MOST_COLUMNS>, ATOMS>,
 }
 
 /// Whether a condition doesn't join a column.
@@ -70,7 +71,7 @@ impl JoinedColumns {
     }
 
     /// Those of an atom's columns that a join names; none of an atom that isn't there.
-    pub fn of_atom(&self, atom: u32) -> &[JoinedColumn]
+    pub(crate) fn of_atom(&self, atom: u32) -> &[JoinedColumn]
         ensures { result.now ≡ joined_in self.now atom }
     {
         match self.atoms.as_slice().get(atom as usize) {

@@ -124,7 +124,7 @@ pub fn known_values<'b>(look: &Look<'b>, row: Option<&'b Row>, columns: &[u32]) 
 {
     let setting = look.setting;
     let width = setting.bound.width_of(look.atom);
-    let mut probe = Probe::new(setting.alloc);
+    let mut probe = Probe::new();
     for col in columns {
         if *col >= width || probe.len() == MOST_COLUMNS {
             return probe;

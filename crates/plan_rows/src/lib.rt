@@ -23,7 +23,7 @@ mod wanted;
 pub use course::Course;
 pub use fitting::{fits, may_fit, suits};
 pub use grouped::grouped_along;
-pub use joined::{JoinedColumn, JoinedColumns};
+pub use joined::JoinedColumns;
 pub use known::known_values;
 pub use links::Link;
 pub use look::Look;

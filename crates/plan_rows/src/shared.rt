@@ -13,7 +13,7 @@ use cqa_value::{Items, NoMemory};
 use table_blocks::Bound;
 
 /// Whether two columns of a query are of one variable.
-pub(crate) fn are_linked(bound: &Bound<'_>, a: ColRef, b: ColRef) -> bool
+fn are_linked(bound: &Bound<'_>, a: ColRef, b: ColRef) -> bool
     requires a { IsInRange bound.now.query.now.atoms a }
     requires b { IsInRange bound.now.query.now.atoms b }
     ensures { IsTrue result ↔ AreLinked bound.now.query.now a b }

@@ -2,7 +2,7 @@ use Rattle.std.proofs.Common.{◌≡◌, ◌+◌, refl, sym, subst, arith}
 use Rattle.std.specs.List.{All}
 use Rattle.cqa_model.specs.Query.{atom_at}
 use Rattle.plan_rows.specs.Joining.{LeavesOut, AreJoinedFirst}
-use Rattle.plan_rows.proofs.Joining.{joined-starts, joined-skip, joined-more}
+use Rattle.plan_rows.proofs.Joining.{joined-skip, joined-more}
 use Rattle.plan_rows.proofs.joined.joined_columns.Goals as goal
 
 pub loop-col-preserved-then-is_alone : goal.loop-col-preserved-then-is_alone

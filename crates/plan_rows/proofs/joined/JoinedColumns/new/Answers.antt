@@ -1,10 +1,10 @@
-use Rattle.std.proofs.Common.{◌≡◌, ◌<◌, ◌∷◌, ◌++◌, List, [], inl, inr, length, get_or, ap, sym, subst, ◌∙◌, arith}
+use Rattle.std.proofs.Common.{◌≡◌, ◌∷◌, ◌++◌, List, [], inl, inr, length, get_or, ap, sym, subst, ◌∙◌, arith}
 use Rattle.std.proofs.lemmas.Bool.{cases_lt}
 use Rattle.std.proofs.lemmas.List.{get_or_append_left}
 use Rattle.std.proofs.Math.Seq.{get_or-append_seam}
 use Rattle.arrayvec.specs.ArrayVec.{ArrayVec}
 use Rattle.plan_rows.specs.declared.joined.JoinedColumn.{JoinedColumn}
-use Rattle.plan_rows.specs.Joining.{AreJoinedIn, joined_in}
+use Rattle.plan_rows.specs.Joining.{AreJoinedIn}
 use Rattle.plan_rows.proofs.Joining.{joined-past}
 use Rattle.plan_rows.proofs.joined.JoinedColumns.new.Goals as goal
 
