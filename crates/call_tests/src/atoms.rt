@@ -15,21 +15,21 @@ struct Case {
 }
 
 /// How many rows a look-up by no key values gives, if the first of them is the table's first; 0 where the query has no such atom.
-fn found(alloc: Global, bound: &Bound<'_>, atom: u32) -> usize {
+fn found(bound: &Bound<'_>, atom: u32) -> usize {
     if atom as usize >= bound.query.atoms.len() {
         return 0;
     }
-    let (place, rows) = bound.rows_with(atom, &Probe::new(alloc));
+    let (place, rows) = bound.rows_with(atom, &Probe::new());
     if place == 0 { rows.len() } else { 0 }
 }
 
 impl Wanted for Case {
-    fn comes(&self, alloc: Global, bound: &Bound<'_>) -> bool {
+    fn comes(&self, _alloc: Global, bound: &Bound<'_>) -> bool {
         bound.table_of(self.atom) == self.table
             && bound.width_of(self.atom) == self.width
             && bound.key_of(self.atom) == self.key
             && bound.rows_of(self.atom).len() == self.rows
-            && found(alloc, bound, self.atom) == self.rows
+            && found(bound, self.atom) == self.rows
     }
 }
 

@@ -45,18 +45,18 @@ fn fill(alloc: Global, db: &mut Database) -> Option<u32> {
 }
 
 /// Whether a number's block has one row.
-fn has_one<L: Ledger>(alloc: Global, db: &Database, number: i64, steps: &mut Steps<L>) -> bool
+fn has_one<L: Ledger>(db: &Database, number: i64, steps: &mut Steps<L>) -> bool
     requires there { 0 < length db.now }
     requires keyed { length (key_at db.now 0) ≡ 1 }
 {
     let value = Value::Int(number);
-    let mut probe = Probe::new(alloc);
+    let mut probe = Probe::new();
     probe.put(&value);
     db.block(0, &probe, steps).len() == 1
 }
 
 /// Whether each number's block has one row.
-fn have_one_each<L: Ledger>(alloc: Global, db: &Database, blank: Blank) -> bool
+fn have_one_each<L: Ledger>(db: &Database, blank: Blank) -> bool
     requires name { blank.name ≡ L.name }
     requires parts { blank.parts ≡ L.parts }
     requires some { 0 < blank.parts }
@@ -67,14 +67,14 @@ fn have_one_each<L: Ledger>(alloc: Global, db: &Database, blank: Blank) -> bool
     }
     let mut right = true;
     for number in 1..=MANY {
-        right = right && has_one(alloc, db, number, &mut steps);
+        right = right && has_one(db, number, &mut steps);
     }
     right
 }
 
 fn are_found(alloc: Global, db: &mut Database) -> bool {
     let filled = fill(alloc, db) == Some(1_000_000);
-    filled && have_one_each::<Brand>(alloc, db, Blank::new(1))
+    filled && have_one_each::<Brand>(db, Blank::new(1))
 }
 
 #[test]

@@ -52,13 +52,7 @@ const CASES: [Case; 8] = [
 ];
 
 /// Whether that is found.
-fn is_found<L: Ledger>(
-    alloc: Global,
-    db: &Database,
-    first: &Value,
-    case: &Case,
-    blank: Blank,
-) -> bool
+fn is_found<L: Ledger>(db: &Database, first: &Value, case: &Case, blank: Blank) -> bool
     requires name { blank.name ≡ L.name }
     requires parts { blank.parts ≡ L.parts }
     requires some { 0 < blank.parts }
@@ -68,7 +62,7 @@ fn is_found<L: Ledger>(
     }
     let mut steps = Steps::<L>::new(blank);
     let second = Value::Int(case.1);
-    let mut probe = Probe::new(alloc);
+    let mut probe = Probe::new();
     probe.put(first);
     let one = span(db, &probe, &mut steps);
     probe.put(&second);
@@ -82,7 +76,7 @@ fn is_case_found(alloc: Global, db: &Database, case: &Case) -> bool {
     match Name::from_bytes(alloc, case.0.as_bytes()) {
         Ok(name) => {
             let first = Value::Text(name);
-            let right = is_found::<Brand>(alloc, db, &first, case, Blank::new(1));
+            let right = is_found::<Brand>(db, &first, case, Blank::new(1));
             drop(first);
             right
         }

@@ -1,9 +1,10 @@
 //! The witnesses of a join of two tables, as a cursor gives them one after the other, each with the names of its rows.
 
 use crate::making::{Wanted, is_answered};
-use cqa_value::{Row, row_text};
+use cqa_value::{Row, Value, row_text};
 use join_access::{PlaceList, RowList};
 use row_cursor::JoinCursor;
+use row_order::Probe;
 use std::alloc::Global;
 use table_blocks::Bound;
 
@@ -64,7 +65,7 @@ const TOLD: [Told; 2] = [
 
 impl Wanted for Case<'_> {
     fn comes(&self, alloc: Global, bound: &Bound<'_>) -> bool {
-        let mut cursor = JoinCursor::new(alloc, bound.db, bound.query, None);
+        let mut cursor = JoinCursor::new(bound.db, bound.query, None);
         let mut right = true;
         for told in self.told {
             right = right && goes_on_to(alloc, &mut cursor, told);
@@ -89,4 +90,31 @@ fn witnesses_come_in_order_with_their_names(rt: HostRuntime) {
     let wanted = Case { told: &told };
     let question = "ask exists from r, s where r.x = s.x and r.y = s.y";
     assert!(rt; is_answered(rt.alloc(), &tables, &rows, question, &wanted));
+}
+
+/// Whether these values stand in a probe.
+fn are_values(probe: &Probe<'_>, values: &[&Value]) -> bool {
+    if probe.len() != values.len() {
+        return false;
+    }
+    for at in 0..values.len() {
+        if probe.get(at) != values[at] {
+            return false;
+        }
+    }
+    true
+}
+
+#[test]
+fn short_lists_are_cut_and_copied(rt: HostRuntime) {
+    let (one, two, three) = (Value::Int(1), Value::Int(2), Value::Int(3));
+    let mut probe = Probe::new();
+    probe.put(&one);
+    probe.put(&two);
+    probe.put(&three);
+    let whole = probe.copy();
+    probe.truncate(2);
+    probe.put(&one);
+    assert!(rt; are_values(&whole, &[&one, &two, &three]));
+    assert!(rt; are_values(&probe, &[&one, &two, &one]));
 }

@@ -1,3 +1,4 @@
 pub mod Taken
 pub mod BlockOrder
 pub mod Reordering
+pub mod Ties

@@ -6,11 +6,11 @@ mod cells;
 mod compare;
 mod flat;
 mod order;
-mod probe;
 mod settle;
+mod short_list;
 mod sort;
 
 pub use cells::cell;
 pub use compare::{block_compare, key_compare};
 pub use order::put_in_order;
-pub use probe::Probe;
+pub use short_list::{Probe, ShortList};

@@ -1,8 +1,8 @@
 -- Rows in block order are parted by a probe.
-use Rattle.std.proofs.Common.{◌≡◌, ◌+◌, ◌<◌, ◌≤◌, ℕ, suc, zero, length, List, [], ◌∷◌, ◌++◌, Bool, true, false, refl, sym, ◌∙◌, ap, subst, arith, take, drop, get_or, true≢false, slice_get, Some, not, ◌==◌, length-append}
+use Rattle.std.proofs.Common.{◌≡◌, ◌+◌, ◌<◌, ◌≤◌, ℕ, suc, zero, length, List, [], ◌∷◌, ◌++◌, Bool, true, false, refl, sym, ◌∙◌, ap, subst, arith, take, drop, get_or, true≢false, slice_get, Some, not, length-append}
 use Rattle.std.specs.List.{AllByRecursion}
 use Rattle.std.specs.List.Sorted.{IsStrictlySortedBy, IsPartitionedBy, IsPartitionPoint}
-use Rattle.std.specs.Ordering.{ordering_then, ordering_index}
+use Rattle.std.specs.Ordering.{ordering_then}
 use Rattle.std.specs.declared.cmp.Ordering.{Ordering}
 use Rattle.std.specs.declared.cmp.Ordering.TheVariants.{Less, Equal, Greater}
 use Rattle.std.proofs.lemmas.List.{get_or-take, get_or-drop, length-take-le, length-drop, take-append-drop, drop_more}
@@ -134,16 +134,6 @@ next_pair key row probe at v p few inside is found =
     let column = drop_more (take n key) at 0 (omega (arith, size, inside)) ∙ ap (λ c. c ∷ drop (at + 1) (take n key)) (get_or-take n key at 0 inside) in
     let other = drop_more probe at p inside ∙ ap (λ c. c ∷ drop (at + 1) probe) (get_or_from_slice_get probe at p p found) in
     rw (column, other, is) refl
-
-pub decides : (o p : Ordering) → true ≡ not (ordering_index o == 1) → ordering_then o p ≡ o
-decides Less p e = refl
-decides Equal p e = (cc)
-decides Greater p e = refl
-
-pub ties_on : (o p : Ordering) → false ≡ not (ordering_index o == 1) → ordering_then o p ≡ p
-ties_on Less p e = (cc)
-ties_on Equal p e = refl
-ties_on Greater p e = (cc)
 
 pub span-within : (key : List ℕ) (rows : List (List Value)) (probe : List Value) (start : ℕ) (span : List (List Value)) → IsSpan key rows probe start span → start + length span ≤ length rows
 span-within key rows probe start span h =

@@ -1,5 +1,6 @@
 //! A query that fits a database, as one value: what every method works on that answers a query. What it says of an atom it
-//! says of any number: an atom that the query doesn't have has no columns, and the first table.
+//! says of any number: an atom that the query doesn't have has no columns, no key and the first table. Only a look-up of rows by
+//! key values needs an atom that is there.
 
 ghost use Rattle.std.specs.Prelude.{◌≡◌};
 ghost use Rattle.cqa_model.specs.Database.{IsDatabase};
@@ -95,6 +96,7 @@ impl<'a> Bound<'a> {
         ensures within { result.0 + length result.1 ≤ MOST_ROWS }
     {
         let table = self.table_of(atom);
+        // Asked for its order alone.
         let _rows = self.db.rows(table);
         self.db.rows_with(table, probe)
     }

@@ -1,9 +1,8 @@
 //! Rows in block order: how a row is found, how rows are put in another order, and how they are taken out.
 //! Nothing is compared that its place or its key tells.
-ghost use Rattle.std.specs.Prelude.{◌≡◌, ◌≤◌, ◌+◌, ◌↔◌, IsTrue, MatchOption, OnErr, IfOk, Ok, Some, None, if◌then◌else◌, slice_get, List, Contains, length};
+ghost use Rattle.std.specs.Prelude.{◌≡◌, ◌≤◌, ◌+◌, ◌↔◌, IsTrue, MatchOption, OnErr, IfOk, Ok, Some, None, if◌then◌else◌, slice_get, Contains, length};
 ghost use Rattle.std.specs.List.Sorted.{IsStrictlySortedBy};
 ghost use Rattle.std.specs.Ordering.{is_lt};
-ghost use Rattle.cqa_value.specs.declared.value.Value.{Value as Cell};
 ghost use Rattle.cqa_model.specs.Database.{AreConsistent, block_cmp};
 ghost use Rattle.row_order.specs.Ordered.{block_order};
 ghost use Rattle.table_blocks.specs.Keys.{first_clash};
@@ -123,17 +122,12 @@ pub struct Fresh {
 }
 
 /// The places from which on and up to which rows stand that have the first key values which tests tell.
-pub fn told_places(
-    alloc: Global,
-    rows: &Rows<'_>,
-    key: &[u32],
-    tests: &[ColumnTest],
-) -> (usize, usize)
+pub fn told_places(rows: &Rows<'_>, key: &[u32], tests: &[ColumnTest]) -> (usize, usize)
     requires in_order { IsStrictlySortedBy (block_cmp key.now) rows.now }
     ensures told { IsToldStretch key.now rows.now tests.now result.0 result.1 }
     ensures within { result.1 ≤ length rows.now }
 {
-    let probe = known_key(alloc, key, tests);
+    let probe = known_key(key, tests);
     let (from, told) = rows_with(rows, key, &probe);
     drop(probe);
     prove!(from <= rows.len());
@@ -146,7 +140,7 @@ pub fn remove(rows: &mut Pieces, key: &[u32], tests: &[ColumnTest])
     ensures spared { IsSpared key.now rows.old tests.now rows.new }
     ensures fewer { length rows.new ≤ length rows.old }
 {
-    let (from, to) = told_places(rows.allocator(), &rows.rows(), key, tests);
+    let (from, to) = told_places(&rows.rows(), key, tests);
     rows.retain_in(
         from,
         to,

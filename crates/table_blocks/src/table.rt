@@ -223,7 +223,7 @@ impl Table {
         ensures within { result.1 ≤ length self.now.rows }
     {
         let key = key_places(&self.schema);
-        told_places(self.rows.allocator(), &self.rows.rows(), key, tests)
+        told_places(&self.rows.rows(), key, tests)
     }
 
     /// Takes the rows of a stretch away that aren't told to stay.

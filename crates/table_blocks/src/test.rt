@@ -10,7 +10,6 @@ ghost use Rattle.table_blocks.specs.Tables.{TestsHold};
 use cqa_model::{MOST_COLUMNS, Op};
 use cqa_value::{Row, Value};
 use row_order::Probe;
-use std::alloc::Global;
 
 /// A comparison of a table's column with a value.
 #[derive(Drop)]
@@ -56,11 +55,11 @@ fn told(tests: &[ColumnTest], place: u32) -> Option<&Value>
 }
 
 /// The first key values of the rows for which all tests hold, as many as the tests tell.
-pub fn known_key<'a>(alloc: Global, key: &[u32], tests: &'a [ColumnTest]) -> Probe<'a>
+pub fn known_key<'a>(key: &[u32], tests: &'a [ColumnTest]) -> Probe<'a>
     ensures few { length result ≤ length key.now }
     ensures known { (row : List Cell) → TestsHold tests.now row → first_key key.now result row ≡ result }
 {
-    let mut probe = Probe::new(alloc);
+    let mut probe = Probe::new();
     for place in key {
         let Some(value) = told(tests, *place) else {
             return probe;

@@ -1,6 +1,7 @@
 use Rattle.std.proofs.Common.{◌≡◌, sym, ◌∙◌, arith, subst, true, false, not, ◌==◌}
 use Rattle.std.specs.Ordering.{ordering_index}
-use Rattle.table_blocks.proofs.Spanning.{next_pair, decides, ties_on}
+use Rattle.row_order.proofs.Ties.{decides, ties_on}
+use Rattle.table_blocks.proofs.Spanning.{next_pair}
 use Rattle.table_blocks.proofs.order.compare_key.Goals as goal
 
 pub returns-then-ne : goal.returns-then-ne
