@@ -1,6 +1,7 @@
 //! Tests of calls that no script reaches, and of what no reply shows: a writer that is flushed, blocks of CSV, cursors over rows
 //! and blocks, look-ups in many rows, what is said of a query's atoms, whether a row holds by a plan, the order in which atoms are
-//! taken, and the places of a witness's rows. Each call succeeds with ample memory, and with the answer that was worked out by hand.
+//! taken, the places of a witness's rows, and short lists. Each call succeeds with ample memory, and with the answer that was
+//! worked out by hand.
 #![tactic(auto)]
 
 #[cfg(test)]

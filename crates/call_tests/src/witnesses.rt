@@ -1,4 +1,5 @@
-//! The witnesses of a join of two tables, as a cursor gives them one after the other, each with the names of its rows.
+//! The witnesses of a join of two tables, as a cursor gives them one after the other, each with the names of its rows; and the
+//! short lists that they come in.
 
 use crate::making::{Wanted, is_answered};
 use cqa_value::{Row, Value, row_text};
