@@ -37,8 +37,8 @@ use Rattle.naming_law.proofs.Members.{goals_are_resolved, tests_are_resolved, gr
 use Rattle.naming_law.proofs.Queries.{unions_are_resolved}
 use Rattle.naming_law.proofs.Joined.{ranges_are_resolved}
 use Rattle.union_ask.specs.Laws.{CandidatesDecide}
-use Rattle.union_law.specs.Answers.{UnionAnswersExist}
-use Rattle.union_law.specs.Reasons.{UnionReasonsExist}
+use Rattle.existence_law.specs.UnionAnswers.{UnionAnswersExist}
+use Rattle.existence_law.specs.UnionReasons.{UnionReasonsExist}
 use Rattle.command_shell.specs.Laws.{StepsGoOn}
 use Rattle.command_shell.proofs.Keyed.{IsKeyed, keyed}
 use Rattle.command_shell.proofs.ShownLines.{tables_are_shown, conflicts_are_shown}

@@ -3,7 +3,7 @@ use Rattle.std.proofs.Common.{inl, inr, List, map, refl}
 use Rattle.cqa_value.specs.declared.value.Value.{Value}
 use Rattle.cqa_model.specs.declared.query.Query.{Query}
 use Rattle.cqa_model.specs.Query.{FitsDatabase}
-use Rattle.against_law.proofs.Hitting.{rows_against_exist}
+use Rattle.existence_law.proofs.Hitting.{rows_against_exist}
 use Rattle.existence_law.proofs.Answering.{rows_are_decided}
 use Rattle.existence_law.proofs.Attacking.{methods_are_decided}
 use Rattle.existence_law.proofs.Naming.{witnesses_are_listed}

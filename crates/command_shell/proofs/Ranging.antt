@@ -8,10 +8,10 @@ use Rattle.existence_law.proofs.Ranging.{ranges_exist}
 use Rattle.join_access.specs.Listing.{HasTooMany}
 use Rattle.query_resolve.specs.declared.range.RangeQuery.{RangeQuery}
 use Rattle.query_resolve.specs.Resolved.{IsRangeOf}
-use Rattle.range_law.specs.Joins.{CanBeRanged}
-use Rattle.range_law.proofs.Grouping.{groups_exist}
-use Rattle.range_law.proofs.Joining.{join_ranges_exist}
-use Rattle.range_law.proofs.Parting.{join_groups_exist}
+use Rattle.existence_law.specs.Joins.{CanBeRanged}
+use Rattle.existence_law.proofs.Grouping.{groups_exist}
+use Rattle.existence_law.proofs.Joining.{join_ranges_exist}
+use Rattle.existence_law.proofs.JoinGrouping.{join_groups_exist}
 use Rattle.refusals.specs.declared.refusal.Refusal.TheVariants.{WitnessLimit}
 use Rattle.reply_text.specs.declared.reply.Reply.{Reply}
 use Rattle.reply_text.specs.declared.reply.Reply.TheVariants as replies

@@ -20,7 +20,7 @@ use Rattle.reply_text.specs.declared.reply.Reply.{Reply}
 use Rattle.reply_text.specs.declared.reply.Reply.TheVariants.{SqlParts, NoPlanOf, Shares}
 use Rattle.spj_syntax.specs.declared.tree.Select.{Select}
 use Rattle.union_ask.specs.Laws.{CandidatesDecide}
-use Rattle.union_law.proofs.Parting.{parts_are_decided}
+use Rattle.existence_law.proofs.Parting.{parts_are_decided}
 use Rattle.cqa_session.specs.Statements.SqlUnion.{TellsUnionSql}
 use Rattle.cqa_session.proofs.Apart.{union_told}
 

@@ -19,10 +19,10 @@ use Rattle.reply_text.specs.declared.reply.Reply.TheVariants.{Rows, Refused, Rej
 use Rattle.row_lists.proofs.Words.{zip-choose}
 use Rattle.spj_syntax.specs.declared.tree.Select.{Select}
 use Rattle.union_ask.specs.Reasons.{IsReasonIn, IsUntoldIn}
-use Rattle.union_law.specs.Answers.{UnionAnswersExist}
-use Rattle.union_law.specs.Reasons.{UnionReasonsExist}
-use Rattle.union_law.proofs.Deciding.{union_first_over_exists}
-use Rattle.union_law.proofs.Parting.{parts_are_decided}
+use Rattle.existence_law.specs.UnionAnswers.{UnionAnswersExist}
+use Rattle.existence_law.specs.UnionReasons.{UnionReasonsExist}
+use Rattle.existence_law.proofs.UnionAnswering.{union_first_over_exists}
+use Rattle.existence_law.proofs.Parting.{parts_are_decided}
 use Rattle.cqa_session.specs.State.{State, IsState}
 use Rattle.cqa_session.specs.Statements.AskUnion.{TellsUnion}
 use Rattle.cqa_session.specs.Statements.ExplainUnion.{MayTellUnion}

@@ -7,7 +7,7 @@ ghost use Rattle.command_shell.specs.Runs.{GoesOnFrom};
 use cqa_session::Session;
 use cutting_law::laws::inputs_are_cut;
 use union_ask::candidates_decide;
-use union_law::laws::{union_answers_exist, union_reasons_exist};
+use existence_law::unions::{union_answers_exist, union_reasons_exist};
 
 /// From each valid state, each text with each block has a step to a valid state.
 pub fn steps_go_on()

@@ -1,5 +1,5 @@
 -- The answers of a query are lists: whether a row is one is decided, and some choice of rows gives it.
-use Rattle.std.proofs.Common.{◌≡◌, ◌↔◌, ◌∙◌, inl, inr, List, [], length, map, subst, Contains}
+use Rattle.std.proofs.Common.{◌↔◌, inl, inr, List, [], length, map, subst, Contains}
 use Rattle.std.specs.List.Sorted.{IsStrictlySortedBy}
 use Rattle.cqa_value.specs.declared.value.Value.{Value}
 use Rattle.cqa_value.specs.Values.{row_cmp, row_cmp_total}

@@ -1,3 +1,6 @@
+pub mod Closing
+pub mod NewClauses
+pub mod Spending
 pub mod Choices
 pub mod Answering
 pub mod Refuting
@@ -8,5 +11,16 @@ pub mod Reaching
 pub mod Attacking
 pub mod Blocking
 pub mod Limiting
+pub mod UnionAnswering
+pub mod Numbering
+pub mod UnionEncoding
+pub mod UnionRejecting
+pub mod Reasoning
+pub mod Parting
+pub mod Choosing
+pub mod Hitting
 pub mod Extremes
 pub mod Ranging
+pub mod Grouping
+pub mod Joining
+pub mod JoinGrouping

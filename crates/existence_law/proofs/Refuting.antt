@@ -15,8 +15,8 @@ use Rattle.cnf_form.specs.Literals.{literals, positive, negative, negated, oppos
 use Rattle.cnf_form.specs.Logs.{Live, numbered, with_clause, AdditionPasses, HintsPass, StepsPass, added}
 use Rattle.cnf_form.proofs.Lits.{opposite-opposite, opposites-twice, equal_or_not}
 use Rattle.cdcl.specs.Outcomes.{AreConsecutive}
-use Rattle.budget_law.proofs.Deciding.{AreLive}
-use Rattle.budget_law.proofs.Spending.{all_live}
+use Rattle.existence_law.proofs.NewClauses.{AreLive}
+use Rattle.existence_law.proofs.Spending.{all_live}
 use Rattle.existence_law.specs.Refutations.{RefutationsExist}
 
 -- ---- steps that add a clause

@@ -1,3 +1,4 @@
+pub mod Budgets
 pub mod Answers
 pub mod Refutations
 pub mod Formulas
@@ -5,4 +6,11 @@ pub mod Rejections
 pub mod Graphs
 pub mod Blocks
 pub mod Limits
+pub mod UnionAnswers
+pub mod UnionFormulas
+pub mod UnionReasons
+pub mod UnionParts
+pub mod Against
 pub mod Ranges
+pub mod Groups
+pub mod Joins

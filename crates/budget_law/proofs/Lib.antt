@@ -1,3 +1,0 @@
-pub mod Closing
-pub mod Deciding
-pub mod Spending

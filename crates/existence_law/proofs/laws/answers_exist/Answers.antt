@@ -1,5 +1,0 @@
-use Rattle.existence_law.proofs.Answering.{answers_exist}
-use Rattle.existence_law.proofs.laws.answers_exist.Goals as goal
-
-pub returns : goal.returns
-returns c = answers_exist

@@ -1,5 +1,0 @@
-use Rattle.existence_law.proofs.Limiting.{first_over_exists}
-use Rattle.existence_law.proofs.laws.first_over_exists.Goals as goal
-
-pub returns : goal.returns
-returns c = first_over_exists

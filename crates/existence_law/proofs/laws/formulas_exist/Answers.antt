@@ -1,5 +1,0 @@
-use Rattle.existence_law.proofs.Encoding.{formulas_exist}
-use Rattle.existence_law.proofs.laws.formulas_exist.Goals as goal
-
-pub returns : goal.returns
-returns c = formulas_exist

@@ -1,5 +1,0 @@
-use Rattle.existence_law.proofs.Rejecting.{kept_rows_have_names}
-use Rattle.existence_law.proofs.laws.kept_rows_have_names.Goals as goal
-
-pub returns : goal.returns
-returns c = kept_rows_have_names

@@ -1,5 +1,0 @@
-use Rattle.existence_law.proofs.Attacking.{methods_are_decided}
-use Rattle.existence_law.proofs.laws.methods_are_decided.Goals as goal
-
-pub returns : goal.returns
-returns c = methods_are_decided

@@ -1,5 +1,0 @@
-use Rattle.existence_law.proofs.Ranging.{ranges_exist}
-use Rattle.existence_law.proofs.laws.ranges_exist.Goals as goal
-
-pub returns : goal.returns
-returns c = ranges_exist

@@ -1,5 +1,0 @@
-use Rattle.existence_law.proofs.Refuting.{refutations_exist}
-use Rattle.existence_law.proofs.laws.refutations_exist.Goals as goal
-
-pub returns : goal.returns
-returns c = refutations_exist

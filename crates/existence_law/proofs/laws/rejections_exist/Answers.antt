@@ -1,5 +1,0 @@
-use Rattle.existence_law.proofs.Rejecting.{rejections_exist}
-use Rattle.existence_law.proofs.laws.rejections_exist.Goals as goal
-
-pub returns : goal.returns
-returns c = rejections_exist

@@ -1,5 +1,0 @@
-use Rattle.existence_law.proofs.Answering.{rows_are_decided}
-use Rattle.existence_law.proofs.laws.rows_are_decided.Goals as goal
-
-pub returns : goal.returns
-returns c = rows_are_decided

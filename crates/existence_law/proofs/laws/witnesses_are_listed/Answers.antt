@@ -1,5 +1,0 @@
-use Rattle.existence_law.proofs.Naming.{witnesses_are_listed}
-use Rattle.existence_law.proofs.laws.witnesses_are_listed.Goals as goal
-
-pub returns : goal.returns
-returns c = witnesses_are_listed

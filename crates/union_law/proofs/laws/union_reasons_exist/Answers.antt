@@ -1,5 +1,0 @@
-use Rattle.union_law.proofs.Reasoning.{union_reasons_exist}
-use Rattle.union_law.proofs.laws.union_reasons_exist.Goals as goal
-
-pub returns : goal.returns
-returns c = union_reasons_exist c.possible_is_candidate_in.ensures c.unions_decide.ensures

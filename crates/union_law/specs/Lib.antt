@@ -1,4 +1,0 @@
-pub mod Answers
-pub mod Formulas
-pub mod Reasons
-pub mod Parts
