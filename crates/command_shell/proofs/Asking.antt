@@ -18,7 +18,7 @@ use Rattle.cqa_session.specs.Statements.Explain.{MayTell}
 use Rattle.cqa_session.specs.Statements.Against.{TellsAgainst}
 use Rattle.cqa_session.specs.Statements.Prove.{MayProve}
 use Rattle.command_shell.specs.Changing.{GoesOnTo}
-use Rattle.naming_law.proofs.Queries.{queries_are_resolved}
+use Rattle.reading_law.proofs.Queries.{queries_are_resolved}
 use Rattle.existence_law.proofs.Answering.{answers_exist}
 use Rattle.command_shell.proofs.Classing.{classes_are_told}
 use Rattle.command_shell.proofs.Planning.{plans_are_told, sql_is_told, proofs_are_told}

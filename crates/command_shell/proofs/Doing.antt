@@ -11,8 +11,6 @@ use Rattle.spj_syntax.specs.declared.tree.RawTest.{RawTest}
 use Rattle.spj_syntax.specs.declared.tree.Selects.{Selects}
 use Rattle.spj_syntax.specs.declared.tree.Statement.{Statement}
 use Rattle.spj_syntax.specs.declared.tree.Statement.TheVariants as statements
-use Rattle.saying_law.specs.Laws.{IsStorable}
-use Rattle.saying_law.proofs.Storing.{statements_are_storable}
 use Rattle.csv_rows.specs.Dumps.{dump_text}
 use Rattle.query_resolve.specs.Names.{columns_at}
 use Rattle.query_resolve.specs.Checks.{goal_fault, tests_fault, group_fault, range_join_fault, union_fault, union_row_fault}
@@ -33,9 +31,11 @@ use Rattle.cqa_session.proofs.Sayings.{says_something}
 use Rattle.command_shell.specs.Changing.{GoesOnTo}
 use Rattle.command_shell.proofs.States.{found_on}
 use Rattle.command_shell.proofs.Whole.{creates_go_on, alters_go_on, inserts_go_on, deletes_go_on, prefers_go_on, copies_go_on}
-use Rattle.naming_law.proofs.Members.{goals_are_resolved, tests_are_resolved, groups_are_resolved}
-use Rattle.naming_law.proofs.Queries.{unions_are_resolved}
-use Rattle.naming_law.proofs.Joined.{ranges_are_resolved}
+use Rattle.reading_law.specs.Texts.{IsStorable}
+use Rattle.reading_law.proofs.Storing.{statements_are_storable}
+use Rattle.reading_law.proofs.Members.{goals_are_resolved, tests_are_resolved, groups_are_resolved}
+use Rattle.reading_law.proofs.Queries.{unions_are_resolved}
+use Rattle.reading_law.proofs.JoinedRanges.{ranges_are_resolved}
 use Rattle.union_ask.specs.Laws.{CandidatesDecide}
 use Rattle.existence_law.specs.UnionAnswers.{UnionAnswersExist}
 use Rattle.existence_law.specs.UnionReasons.{UnionReasonsExist}

@@ -7,8 +7,8 @@ use Rattle.script_lex.proofs.Statements.{space_over, first_statement}
 use Rattle.refusals.specs.declared.refusal.Refusal.TheVariants.{Unfinished}
 use Rattle.reply_text.specs.declared.reply.Reply.{Reply}
 use Rattle.reply_text.specs.declared.reply.Reply.TheVariants.{Refused}
-use Rattle.cutting_law.specs.Laws.{InputsAreCut}
-use Rattle.cutting_law.proofs.Firsts.{first_cut}
+use Rattle.reading_law.specs.Inputs.{InputsAreCut}
+use Rattle.reading_law.proofs.Firsts.{first_cut}
 use Rattle.cqa_session.specs.Runs.{Closes}
 use Rattle.command_shell.specs.Laws.{StepsGoOn, RunsGoOn, InputsAreRun}
 

@@ -16,12 +16,12 @@ use Rattle.spj_syntax.specs.Written.{HasKey}
 use Rattle.table_blocks.specs.Tables.{kinds_at, AreValidRows, AreValidTables}
 use Rattle.table_blocks.proofs.Changing.{stored_push}
 use Rattle.table_changes.specs.Changes.{insert_fault, rekey_fault}
-use Rattle.csv_law.proofs.Blocks.{blocks_are_read}
 use Rattle.csv_rows.specs.Blocks.{HoldsRows, IsFirstBad}
 use Rattle.query_resolve.specs.Names.{columns_at, column_places}
 use Rattle.query_resolve.specs.Checks.{first_fault, table_fault, duplicate_fault, names_fault, new_key_fault, tests_fault}
 use Rattle.query_resolve.proofs.Schemas.{free_name, has_room, is_key}
-use Rattle.naming_law.proofs.Members.{schemas_are_resolved, keys_are_resolved, tests_are_resolved}
+use Rattle.reading_law.proofs.Members.{schemas_are_resolved, keys_are_resolved, tests_are_resolved}
+use Rattle.reading_law.proofs.Records.{blocks_are_read}
 use Rattle.reply_text.specs.declared.reply.Reply.TheVariants.{Created, Altered, Inserted, Deleted, Copied, Refused}
 use Rattle.cqa_session.specs.State.{State, IsState}
 use Rattle.cqa_session.specs.Statements.Alter.{change_fault, Changes, Alters}

@@ -7,7 +7,7 @@ use Rattle.reply_text.specs.declared.reply.Reply.{Reply}
 use Rattle.reply_text.specs.Texts.{reply_text}
 use Rattle.cqa_session.specs.State.{State}
 use Rattle.cqa_session.specs.Runs.{Run, Closes, CutShort, text_of}
-use Rattle.cutting_law.specs.Laws.{InputsAreCut}
+use Rattle.reading_law.specs.Inputs.{InputsAreCut}
 use Rattle.command_shell.specs.Laws.{RunsGoOn, StatesGoOn}
 use Rattle.command_shell.specs.Runs.{GoesOnFrom, BeginsRun}
 use Rattle.command_shell.proofs.Running.{closing}

@@ -5,7 +5,7 @@ ghost use Rattle.command_shell.specs.Laws.{StepsGoOn, RunsGoOn, InputsAreRun, St
 ghost use Rattle.command_shell.specs.Runs.{GoesOnFrom};
 
 use cqa_session::Session;
-use cutting_law::laws::inputs_are_cut;
+use reading_law::inputs::inputs_are_cut;
 use union_ask::candidates_decide;
 use existence_law::unions::{union_answers_exist, union_reasons_exist};
 

@@ -11,9 +11,9 @@ use Rattle.spj_syntax.proofs.Answered.{only_fault}
 use Rattle.spj_syntax.proofs.Once.{statement_once}
 use Rattle.refusals.specs.declared.refusal.Refusal.{Refusal}
 use Rattle.reply_text.specs.declared.reply.Reply.{Reply}
-use Rattle.saying_law.proofs.Spelling.{texts_have_tokens}
-use Rattle.saying_law.proofs.Parsing.{tokens_are_decided}
-use Rattle.saying_law.proofs.Whole.{statements_have_trees}
+use Rattle.reading_law.proofs.Spelling.{texts_have_tokens}
+use Rattle.reading_law.proofs.Parsing.{tokens_are_decided}
+use Rattle.reading_law.proofs.Trees.{statements_have_trees}
 use Rattle.cqa_session.specs.State.{State}
 use Rattle.cqa_session.specs.Saying.{of_lexing, of_parsing, SaysNoStatement, Says, IsReadAs, SaysOneThing, SaysSomething}
 use Rattle.cqa_session.specs.Replying.{IsReplyOutcome}

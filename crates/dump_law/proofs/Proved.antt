@@ -16,8 +16,8 @@ use Rattle.spj_syntax.specs.declared.tree.Select.{Select}
 use Rattle.spj_syntax.specs.declared.tree.Statement.TheVariants as statements
 use Rattle.spj_syntax.specs.declared.tree.Verb.TheVariants as verbs
 use Rattle.spj_syntax.specs.Texts.{HasStatement}
-use Rattle.saying_law.specs.Laws.{HasValidLiteral}
-use Rattle.saying_law.proofs.Storing.{proves_of_valid_values}
+use Rattle.reading_law.specs.Texts.{HasValidLiteral}
+use Rattle.reading_law.proofs.Storing.{proves_of_valid_values}
 use Rattle.query_resolve.specs.Resolved.{IsCondOf}
 use Rattle.reply_text.specs.declared.reply.Reply.TheVariants.{Certificate}
 use Rattle.cqa_session.specs.State.{State, IsState}

@@ -1,8 +1,0 @@
-//! What blocks of CSV hold, over the definitions alone. The law is what its function ensures, so the build proves it.
-
-ghost use Rattle.csv_law.specs.Laws.{BlocksAreRead};
-
-/// A block holds rows, or has a first record that is no row.
-pub fn blocks_are_read()
-    ensures { BlocksAreRead }
-{}

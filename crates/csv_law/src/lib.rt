@@ -1,4 +1,0 @@
-//! The law that each block of CSV holds rows, or has a first record that is no row. No code.
-#![tactic(auto)]
-
-pub mod laws;

@@ -1,4 +1,0 @@
-pub mod Members
-pub mod Columns
-pub mod Queries
-pub mod Joined

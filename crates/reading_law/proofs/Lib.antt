@@ -1,0 +1,16 @@
+pub mod Firsts
+pub mod Cutting
+pub mod Pieces
+pub mod Spelling
+pub mod Parsing
+pub mod Combining
+pub mod Parts
+pub mod Statements
+pub mod Legal
+pub mod Trees
+pub mod Storing
+pub mod Members
+pub mod Columns
+pub mod Queries
+pub mod JoinedRanges
+pub mod Records

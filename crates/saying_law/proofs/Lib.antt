@@ -1,9 +1,0 @@
-pub mod Pieces
-pub mod Spelling
-pub mod Parsing
-pub mod Combining
-pub mod Parts
-pub mod Statements
-pub mod Legal
-pub mod Whole
-pub mod Storing

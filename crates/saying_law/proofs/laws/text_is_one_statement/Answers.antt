@@ -1,5 +1,0 @@
-use Rattle.spj_syntax.proofs.Once.{statement_once}
-use Rattle.saying_law.proofs.laws.text_is_one_statement.Goals as goal
-
-pub returns : goal.returns
-returns c = statement_once
