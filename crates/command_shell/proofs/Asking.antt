@@ -8,7 +8,7 @@ use Rattle.spj_syntax.specs.declared.tree.Verb.TheVariants as verbs
 use Rattle.query_replies.specs.Names.{query_names}
 use Rattle.query_resolve.specs.Checks.{query_fault, answer_fault}
 use Rattle.query_resolve.specs.Resolved.{IsQueryOf}
-use Rattle.row_sides.specs.declared.side.Side.TheVariants.{Certain, Disputed}
+use Rattle.row_answers.specs.declared.side.Side.TheVariants.{Certain, Disputed}
 use Rattle.reply_text.specs.declared.reply.Reply.{Reply}
 use Rattle.reply_text.specs.declared.reply.Reply.TheVariants.{Rows, Classified, Refused}
 use Rattle.cqa_session.specs.State.{State, IsState}

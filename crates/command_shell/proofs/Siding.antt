@@ -14,9 +14,9 @@ use Rattle.existence_law.proofs.Limiting.{first_over_exists}
 use Rattle.query_strategy.specs.Strategies.{NeedsSearch}
 use Rattle.refusals.specs.declared.refusal.Refusal.TheVariants.{WitnessLimit}
 use Rattle.reply_text.specs.declared.reply.Reply.TheVariants.{Rows, Refused}
-use Rattle.row_sides.specs.declared.side.Side.{Side}
-use Rattle.row_sides.specs.declared.side.Side.TheVariants.{Certain, Disputed}
-use Rattle.row_sides.specs.Sides.{IsAnswerOf, IsDisputedAnswer}
+use Rattle.row_answers.specs.declared.side.Side.{Side}
+use Rattle.row_answers.specs.declared.side.Side.TheVariants.{Certain, Disputed}
+use Rattle.row_answers.specs.Sides.{IsAnswerOf, IsDisputedAnswer}
 use Rattle.cqa_session.specs.State.{State, IsState}
 use Rattle.cqa_session.specs.Statements.Sides.{TellsSide, IsWithinWitnesses}
 use Rattle.command_shell.specs.Changing.{GoesOnTo}

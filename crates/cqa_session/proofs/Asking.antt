@@ -4,7 +4,7 @@ use Rattle.cqa_value.specs.declared.memory.Fail.{Fail}
 use Rattle.cqa_value.specs.declared.memory.Fail.TheVariants as fails
 use Rattle.cqa_model.specs.declared.query.Query.{Query}
 use Rattle.cqa_model.specs.Database.{Table}
-use Rattle.row_sides.specs.declared.side.Side.{Side}
+use Rattle.row_answers.specs.declared.side.Side.{Side}
 use Rattle.part_search.specs.declared.searched.Searched.{Searched}
 use Rattle.part_search.specs.declared.searched.Searched.TheVariants.{All, Stopped}
 use Rattle.part_search.specs.declared.searched.Stop.{Stop}

@@ -11,9 +11,9 @@ use Rattle.cqa_model.specs.Certain.{IsCertain, IsPossible, IsCandidate, IsCertai
 use Rattle.cqa_model.proofs.Databases.{possible_is_candidate}
 use Rattle.cqa_model.proofs.Classic.{mem-head, mem-nil, mem-cases}
 use Rattle.join_access.proofs.Extending.{sorted-nil}
-use Rattle.row_sides.specs.declared.side.Side.{Side}
-use Rattle.row_sides.specs.Sides.{IsOf, IsDisputedAnswer}
-use Rattle.row_sides.proofs.Sieving.{AreDone, next-in}
+use Rattle.row_answers.specs.declared.side.Side.{Side}
+use Rattle.row_answers.specs.Sides.{IsOf, IsDisputedAnswer}
+use Rattle.row_answers.proofs.Sieving.{AreDone, next-in}
 use Rattle.repair_clauses.specs.Candidates.{AreCandidates}
 use Rattle.repair_clauses.proofs.Candidates.{has_length}
 

@@ -5,8 +5,8 @@
 ghost use Rattle.std.specs.Prelude.{◌≡◌, ◌↔◌, [], IfOk, IsTrue, OnOk, length};
 ghost use Rattle.cqa_model.specs.Certain.{IsCertain, IsCertainAnswer};
 ghost use Rattle.weak_pairs.specs.Pairs.{IsPair};
-ghost use Rattle.row_sides.specs.Sides.{IsAnswerOf, IsDisputedAnswer, IsOf};
-ghost use Rattle.row_sides.specs.Sifting.{Sifts, AreSifted};
+ghost use Rattle.row_answers.specs.Sides.{IsAnswerOf, IsDisputedAnswer, IsOf};
+ghost use Rattle.row_answers.specs.Sifting.{Sifts, AreSifted};
 ghost use Rattle.repair_clauses.specs.Candidates.{AreCandidates};
 
 use crate::formula::full_formula;
@@ -16,7 +16,7 @@ use join_witness::{Lookup, candidates, lookup_of, witnesses_by};
 use pair_answers::{PairQuery, is_certain};
 use pair_refutation::is_unsatisfiable;
 use repair_clauses::are_avoidable;
-use row_sides::Side;
+use row_answers::Side;
 use row_witnesses::RowWitnesses;
 use std::alloc::Global;
 

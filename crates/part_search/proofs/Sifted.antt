@@ -7,8 +7,8 @@ use Rattle.cqa_value.specs.declared.value.Value.{Value}
 use Rattle.cqa_value.specs.Values.{row_cmp, row_cmp_total}
 use Rattle.cqa_value.proofs.Words.{member_by_recursion}
 use Rattle.cqa_model.proofs.Classic.{mem-nil, mem-cases}
-use Rattle.row_sides.specs.Sifting.{Sifts, AreSifted}
-use Rattle.row_sides.proofs.Sieving.{AreDone, sifted-more, done-all, next-in, later-sorted}
+use Rattle.row_answers.specs.Sifting.{Sifts, AreSifted}
+use Rattle.row_answers.proofs.Sieving.{AreDone, sifted-more, done-all, next-in, later-sorted}
 use Rattle.join_access.proofs.Sorted.{not_less, not_both}
 
 module _ (Kept Over : List Value → Type 0) where

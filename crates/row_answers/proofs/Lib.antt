@@ -1,1 +1,3 @@
 mod Putting
+pub mod Sieving
+mod Leaving

@@ -4,8 +4,8 @@ use Rattle.cqa_value.specs.declared.value.Value.{Value}
 use Rattle.cqa_model.specs.declared.query.Query.{Query}
 use Rattle.cqa_model.specs.Database.{Table}
 use Rattle.cqa_model.specs.Certain.{IsCandidate}
-use Rattle.row_sides.specs.declared.side.Side.{Side}
-use Rattle.row_sides.specs.Sides.{IsOf}
+use Rattle.row_answers.specs.declared.side.Side.{Side}
+use Rattle.row_answers.specs.Sides.{IsOf}
 use Rattle.join_access.specs.Listing.{HasTooMany}
 use Rattle.part_search.specs.declared.searched.Stop.{Stop}
 use Rattle.part_search.specs.declared.searched.Stop.TheVariants as stop

@@ -11,9 +11,9 @@ use Rattle.cnf_form.specs.declared.formula.Cnf.{Cnf}
 use Rattle.cnf_form.specs.declared.log.Log.{Log}
 use Rattle.cnf_form.specs.Spent.{IsSpentLog}
 use Rattle.join_access.specs.Listing.{HasTooMany}
-use Rattle.row_sides.specs.declared.side.Side.{Side}
-use Rattle.row_sides.specs.Sides.{IsAnswerOf, IsOf}
-use Rattle.row_sides.specs.Sifting.{Sifts, AreSifted}
+use Rattle.row_answers.specs.declared.side.Side.{Side}
+use Rattle.row_answers.specs.Sides.{IsAnswerOf, IsOf}
+use Rattle.row_answers.specs.Sifting.{Sifts, AreSifted}
 use Rattle.part_search.specs.declared.judging.Verdict.{Verdict}
 use Rattle.part_search.specs.declared.judging.Verdict.TheVariants as verdict
 use Rattle.part_search.specs.declared.searched.Stop.{Stop}

@@ -11,7 +11,7 @@ use cqa_value::{Items, NoMemory, Row};
 use join_witness::{candidates, lookup_of};
 use list_search::{Room, Scope};
 use part_search::{Searched, Stop, Verdict};
-use row_sides::Side;
+use row_answers::Side;
 use std::alloc::Global;
 use table_blocks::Bound;
 

@@ -7,7 +7,7 @@ use Rattle.cqa_model.specs.Database.{Table, stored, keys_of}
 use Rattle.cqa_model.specs.Query.{value}
 use Rattle.cqa_model.specs.Unions.{AreParts, IsCertainIn, IsCandidateIn, IsUnionAnswer}
 use Rattle.cqa_model.proofs.Existence.{some_repair}
-use Rattle.row_sides.proofs.Sieving.{sifted-in, sifted-out, sifted-sorted}
+use Rattle.row_answers.proofs.Sieving.{sifted-in, sifted-out, sifted-sorted}
 use Rattle.part_search.specs.declared.searched.Stop.{Stop}
 use Rattle.part_search.specs.declared.searched.Stop.TheVariants as stop
 use Rattle.part_search.proofs.Sifted as sifted

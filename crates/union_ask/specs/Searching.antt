@@ -10,7 +10,7 @@ use Rattle.cqa_model.specs.Unions.{IsCertainIn, IsCandidateIn, IsUnionAnswer}
 use Rattle.cnf_form.specs.declared.formula.Cnf.{Cnf}
 use Rattle.cnf_form.specs.declared.log.Log.{Log}
 use Rattle.cnf_form.specs.Spent.{IsSpentLog}
-use Rattle.row_sides.specs.Sifting.{Sifts, AreSifted}
+use Rattle.row_answers.specs.Sifting.{Sifts, AreSifted}
 use Rattle.part_search.specs.declared.searched.Stop.{Stop}
 use Rattle.part_search.specs.declared.searched.Stop.TheVariants as stop
 use Rattle.part_search.specs.declared.searched.Searched.{Searched}

@@ -11,7 +11,7 @@ use cqa_value::{Items, NoMemory, Row};
 use fo_plan::certain_by_plan;
 use pair_formula::{PairQuery, rows_by_pairs};
 use query_strategy::Strategy;
-use row_sides::Side;
+use row_answers::Side;
 use std::alloc::Global;
 use std::marker::Model;
 use table_blocks::Bound;

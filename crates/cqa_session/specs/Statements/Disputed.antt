@@ -1,6 +1,6 @@
 -- `disputed`
 use Rattle.spj_syntax.specs.declared.tree.Select.{Select}
-use Rattle.row_sides.specs.declared.side.Side.TheVariants.{Disputed}
+use Rattle.row_answers.specs.declared.side.Side.TheVariants.{Disputed}
 use Rattle.reply_text.specs.declared.reply.Reply.{Reply}
 use Rattle.cqa_session.specs.State.{State}
 use Rattle.cqa_session.specs.Statements.Sides.{AnswersSide}

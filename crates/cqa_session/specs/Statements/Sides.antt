@@ -7,8 +7,8 @@ use Rattle.refusals.specs.declared.refusal.Refusal.TheVariants.{WitnessLimit, Sp
 use Rattle.cqa_model.specs.Database.{Table}
 use Rattle.cqa_model.specs.Certain.{IsCandidate}
 use Rattle.join_access.specs.Listing.{HasTooMany}
-use Rattle.row_sides.specs.declared.side.Side.{Side}
-use Rattle.row_sides.specs.Sides.{IsAnswerOf}
+use Rattle.row_answers.specs.declared.side.Side.{Side}
+use Rattle.row_answers.specs.Sides.{IsAnswerOf}
 use Rattle.part_search.specs.declared.searched.Searched.{Searched}
 use Rattle.part_search.specs.declared.searched.Searched.TheVariants.{All, Stopped}
 use Rattle.search_answers.specs.Searching.{NoneBefore, IsStop}

@@ -9,7 +9,7 @@ use crate::statements::sides::tell_side;
 use cqa_value::Fail;
 use refusals::Refusal;
 use reply_text::Reply;
-use row_sides::Side;
+use row_answers::Side;
 use spj_syntax::Select;
 use std::alloc::Global;
 

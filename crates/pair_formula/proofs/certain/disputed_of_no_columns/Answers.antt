@@ -1,7 +1,7 @@
 use Rattle.std.proofs.Common.{◌∙◌, [], sym, subst, true≢false}
 use Rattle.std.proofs.lemmas.Result.{IfOk-weaker}
 use Rattle.cqa_model.specs.Certain.{IsCertain, IsPossibleAnswer}
-use Rattle.row_sides.specs.Sides.{IsDisputedAnswer}
+use Rattle.row_answers.specs.Sides.{IsDisputedAnswer}
 use Rattle.pair_formula.proofs.Sieving.{none-disputed, all-disputed}
 use Rattle.pair_formula.proofs.certain.disputed_of_no_columns.Goals as goal
 

@@ -1,6 +1,6 @@
 use Rattle.std.proofs.Common.{sym, subst}
-use Rattle.row_sides.specs.Sides.{IsAnswerOf}
-use Rattle.row_sides.proofs.Sieving.{answer-of}
+use Rattle.row_answers.specs.Sides.{IsAnswerOf}
+use Rattle.row_answers.proofs.Sieving.{answer-of}
 use Rattle.repair_clauses.proofs.Candidates.{candidates_are}
 use Rattle.pair_formula.proofs.certain.of_candidates.Goals as goal
 

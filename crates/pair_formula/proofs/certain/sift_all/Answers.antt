@@ -5,9 +5,9 @@ use Rattle.table_blocks.specs.declared.bound.Bound.{Bound}
 use Rattle.weak_pairs.specs.Pairs.{IsPair}
 use Rattle.repair_clauses.specs.Candidates.{AreCandidates}
 use Rattle.repair_clauses.proofs.Candidates.{has_length}
-use Rattle.row_sides.specs.Sides.{IsOf}
-use Rattle.row_sides.specs.Sifting.{Sifts, AreSifted}
-use Rattle.row_sides.proofs.Sieving.{AreDone, done-none, done-more, done-all}
+use Rattle.row_answers.specs.Sides.{IsOf}
+use Rattle.row_answers.specs.Sifting.{Sifts, AreSifted}
+use Rattle.row_answers.proofs.Sieving.{AreDone, done-none, done-more, done-all}
 use Rattle.pair_formula.proofs.Sieving.{next-candidate}
 use Rattle.pair_formula.proofs.certain.sift_all.Goals as goal
 

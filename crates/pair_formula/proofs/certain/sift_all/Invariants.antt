@@ -1,7 +1,7 @@
 use Rattle.std.proofs.Common.{◌≡◌}
 use Rattle.std.specs.Vec.Iter.{into_iter_items}
-use Rattle.row_sides.specs.Sides.{IsOf}
-use Rattle.row_sides.proofs.Sieving.{AreDone}
+use Rattle.row_answers.specs.Sides.{IsOf}
+use Rattle.row_answers.proofs.Sieving.{AreDone}
 use Rattle.pair_formula.proofs.certain.sift_all.Given as goal
 
 -- the rows so far are sifted

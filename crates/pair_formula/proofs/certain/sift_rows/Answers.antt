@@ -3,8 +3,8 @@ use Rattle.table_blocks.specs.declared.bound.Bound.{Bound}
 use Rattle.weak_pairs.specs.Pairs.{IsPair}
 use Rattle.pair_answers.proofs.Told.{pair-told}
 use Rattle.repair_clauses.specs.Candidates.{AreCandidates}
-use Rattle.row_sides.specs.Sides.{IsOf}
-use Rattle.row_sides.specs.Sifting.{AreSifted}
+use Rattle.row_answers.specs.Sides.{IsOf}
+use Rattle.row_answers.specs.Sifting.{AreSifted}
 use Rattle.pair_formula.proofs.certain.sift_rows.Goals as goal
 
 pub sift_all-sifted-requires-clause-pair : goal.sift_all-sifted-requires-clause-pair

@@ -1,7 +1,7 @@
 use Rattle.std.proofs.Common.{ap, sym, subst}
 use Rattle.std.specs.Option.{is_some}
-use Rattle.row_sides.specs.Sides.{IsAnswerOf}
-use Rattle.row_sides.proofs.Sieving.{answer-of}
+use Rattle.row_answers.specs.Sides.{IsAnswerOf}
+use Rattle.row_answers.proofs.Sieving.{answer-of}
 use Rattle.repair_clauses.proofs.Candidates.{candidates_are}
 use Rattle.search_answers.proofs.search.rows_by_search.Goals as goal
 

@@ -1,7 +1,7 @@
 use Rattle.std.proofs.Common.{subst}
 use Rattle.table_blocks.specs.declared.bound.Bound.{Bound}
-use Rattle.row_sides.specs.declared.side.Side.TheVariants.{Certain}
-use Rattle.row_sides.specs.Sides.{IsAnswerOf}
+use Rattle.row_answers.specs.declared.side.Side.TheVariants.{Certain}
+use Rattle.row_answers.specs.Sides.{IsAnswerOf}
 use Rattle.query_strategy.specs.Strategies.{IsStrategyOf}
 use Rattle.union_ask.proofs.known.known_alone.Goals as goal
 

@@ -4,9 +4,9 @@ use Rattle.cqa_value.specs.declared.value.Value.{Value}
 use Rattle.cqa_value.specs.Values.{row_cmp}
 use Rattle.cqa_model.specs.Certain.{IsCandidate}
 use Rattle.cqa_model.proofs.Databases.{possible_is_candidate}
-use Rattle.row_sides.specs.declared.side.Side.TheVariants.{Disputed}
-use Rattle.row_sides.specs.Sides.{IsDisputedAnswer, IsOf}
-use Rattle.row_sides.proofs.Sieving.{sifted-as, answer-of}
+use Rattle.row_answers.specs.declared.side.Side.TheVariants.{Disputed}
+use Rattle.row_answers.specs.Sides.{IsDisputedAnswer, IsOf}
+use Rattle.row_answers.proofs.Sieving.{sifted-as, answer-of}
 use Rattle.cqa_session.proofs.statements.sides.disputed_beside.Goals as goal
 
 pub without-requires-clause-rows : goal.without-requires-clause-rows

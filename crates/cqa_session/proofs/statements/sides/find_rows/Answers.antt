@@ -1,7 +1,7 @@
 use Rattle.std.proofs.Common.{subst}
 use Rattle.std.proofs.lemmas.Result.{IfOk-weaker}
 use Rattle.table_blocks.specs.declared.bound.Bound.{Bound}
-use Rattle.row_sides.specs.Sides.{IsAnswerOf}
+use Rattle.row_answers.specs.Sides.{IsAnswerOf}
 use Rattle.search_answers.specs.Searching.{IsSearched}
 use Rattle.query_strategy.specs.Strategies.{IsStrategyOf}
 use Rattle.cqa_session.specs.Statements.Sides.{FindsRows}

@@ -9,7 +9,7 @@ use Rattle.cqa_value.specs.Values.{row_cmp, row_cmp_total}
 use Rattle.cqa_value.proofs.Words.{member_by_recursion, cases_le, mem-head, mem-tail, mem-nil, mem-cases, not_less}
 use Rattle.std.specs.Ordering.{ordering_reverse}
 use Rattle.std.proofs.Common.{Greater}
-use Rattle.row_sides.proofs.Sieving.{sorted-behind}
+use Rattle.row_answers.proofs.Sieving.{sorted-behind}
 
 not-both : (x y : List Value) → row_cmp x y ≡ Less → row_cmp y x ≡ Less → ⊥
 not-both x y l m =

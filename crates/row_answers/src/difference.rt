@@ -4,7 +4,7 @@ ghost use Rattle.std.specs.Prelude.{◌≡◌, ◌↔◌, ◌<◌, [], List, Con
 ghost use Rattle.std.specs.List.Sorted.{IsStrictlySortedBy};
 ghost use Rattle.cqa_value.specs.declared.value.Value.{Value};
 ghost use Rattle.cqa_value.specs.Values.{row_cmp};
-ghost use Rattle.row_sides.specs.Sifting.{AreSifted};
+ghost use Rattle.row_answers.specs.Sifting.{AreSifted};
 
 use cqa_value::{NoMemory, Row};
 use std::alloc::Global;

@@ -5,8 +5,8 @@ ghost use Rattle.cqa_value.specs.declared.value.Value.{Value};
 ghost use Rattle.cqa_model.specs.declared.query.Query.{Query};
 ghost use Rattle.cqa_model.specs.Database.{Table};
 ghost use Rattle.cqa_model.specs.Certain.{IsCertain};
-ghost use Rattle.row_sides.specs.Sides.{IsOf};
-ghost use Rattle.row_sides.specs.Sifting.{Sifts};
+ghost use Rattle.row_answers.specs.Sides.{IsOf};
+ghost use Rattle.row_answers.specs.Sifting.{Sifts};
 
 use cqa_value::{NoMemory, Row};
 

@@ -5,10 +5,10 @@ use Rattle.std.proofs.lemmas.List.{nil_from_length}
 use Rattle.cqa_value.specs.declared.value.Value.{Value}
 use Rattle.cqa_value.specs.Values.{row_cmp}
 use Rattle.cqa_value.proofs.Words.{mem-nil}
-use Rattle.row_sides.specs.Sifting.{AreSifted}
-use Rattle.row_sides.proofs.Sieving.{AreDone, done-none, done-more, done-all, later-sorted}
-use Rattle.row_sides.proofs.Leaving.{is-other, to_come-then, met-then, isnt-other, to_come-else, met-else}
-use Rattle.row_sides.proofs.difference.leave_out.Goals as goal
+use Rattle.row_answers.specs.Sifting.{AreSifted}
+use Rattle.row_answers.proofs.Sieving.{AreDone, done-none, done-more, done-all, later-sorted}
+use Rattle.row_answers.proofs.Leaving.{is-other, to_come-then, met-then, isnt-other, to_come-else, met-else}
+use Rattle.row_answers.proofs.difference.leave_out.Goals as goal
 
 pub loop-row-init : goal.loop-row-init
 loop-row-init c = record {

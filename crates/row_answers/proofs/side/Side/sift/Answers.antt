@@ -1,8 +1,8 @@
 use Rattle.std.proofs.Common.{◌≡◌, ◌∙◌, Bool, true, false, not, true≢false, inr, refl, sym, subst}
-use Rattle.row_sides.specs.Sides.{IsOf}
-use Rattle.row_sides.specs.Sifting.{Sifts}
-use Rattle.row_sides.proofs.side.Side.sift.Goals as goal
-use Rattle.row_sides.proofs.side.Side.sift.Goals.{in-Certain, in-Disputed}
+use Rattle.row_answers.specs.Sides.{IsOf}
+use Rattle.row_answers.specs.Sifting.{Sifts}
+use Rattle.row_answers.proofs.side.Side.sift.Goals as goal
+use Rattle.row_answers.proofs.side.Side.sift.Goals.{in-Certain, in-Disputed}
 
 of-not : (b : Bool) → not b ≡ false → b ≡ true
 of-not true e = refl

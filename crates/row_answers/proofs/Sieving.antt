@@ -11,10 +11,10 @@ use Rattle.cqa_model.specs.Database.{Table}
 use Rattle.cqa_model.specs.Query.{FitsDatabase}
 use Rattle.cqa_model.specs.Certain.{IsCandidate}
 use Rattle.cqa_model.proofs.Databases.{possible_is_candidate}
-use Rattle.row_sides.specs.declared.side.Side.{Side}
-use Rattle.row_sides.specs.declared.side.Side.TheVariants.{Certain, Disputed}
-use Rattle.row_sides.specs.Sides.{IsOf, IsAnswerOf}
-use Rattle.row_sides.specs.Sifting.{Sifts, AreSifted}
+use Rattle.row_answers.specs.declared.side.Side.{Side}
+use Rattle.row_answers.specs.declared.side.Side.TheVariants.{Certain, Disputed}
+use Rattle.row_answers.specs.Sides.{IsOf, IsAnswerOf}
+use Rattle.row_answers.specs.Sifting.{Sifts, AreSifted}
 
 pub sorted-behind : (done later : List (List Value)) → IsStrictlySortedBy row_cmp (done ++ later) → IsStrictlySortedBy row_cmp later
 unfolding IsStrictlySortedBy

@@ -1,8 +1,8 @@
 use Rattle.std.proofs.Common.{List, Contains, take, drop}
 use Rattle.std.specs.Vec.Iter.{into_iter_items}
 use Rattle.cqa_value.specs.declared.value.Value.{Value}
-use Rattle.row_sides.proofs.Sieving.{AreDone}
-use Rattle.row_sides.proofs.difference.leave_out.Given as goal
+use Rattle.row_answers.proofs.Sieving.{AreDone}
+use Rattle.row_answers.proofs.difference.leave_out.Given as goal
 
 -- the rows so far are sifted; of the others those from the place on are still to come, and no row before it
 abbrev pub invariant-loop-row : goal.invariant-loop-row

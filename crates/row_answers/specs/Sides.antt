@@ -6,8 +6,8 @@ use Rattle.cqa_value.specs.Values.{row_cmp}
 use Rattle.cqa_model.specs.declared.query.Query.{Query}
 use Rattle.cqa_model.specs.Database.{Table}
 use Rattle.cqa_model.specs.Certain.{IsCertain, IsPossible, IsCertainAnswer}
-use Rattle.row_sides.specs.declared.side.Side.{Side}
-use Rattle.row_sides.specs.declared.side.Side.TheVariants.{Certain, Disputed}
+use Rattle.row_answers.specs.declared.side.Side.{Side}
+use Rattle.row_answers.specs.declared.side.Side.TheVariants.{Certain, Disputed}
 
 -- some repair holds a witness of the row, and some repair holds none
 abbrev pub IsDisputed : List Table → Query → List Value → Type 0

@@ -1,7 +1,7 @@
 use Rattle.std.proofs.Common.{◌≡◌, ◌∙◌, Some, None, slice_get, length, refl, sym, ap, rules}
 use Rattle.std.proofs.lemmas.Option.{same_Some, none-some, slice_get_read, slice_get_past}
 use Rattle.cqa_value.specs.Values.{row_eq, row_decides}
-use Rattle.row_sides.proofs.difference.is_at.Goals as goal
+use Rattle.row_answers.proofs.difference.is_at.Goals as goal
 
 pub returns-in-Some-clause-is : goal.returns-in-Some-clause-is
 returns-in-Some-clause-is c =

@@ -1,2 +1,0 @@
-pub mod Sieving
-mod Leaving
