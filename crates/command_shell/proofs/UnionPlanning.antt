@@ -8,7 +8,7 @@ use Rattle.cqa_model.specs.Graph.{HasCycle}
 use Rattle.cqa_model.specs.Plan.{IsPlanOf}
 use Rattle.cqa_model.specs.Variables.{whole}
 use Rattle.cqa_model.proofs.Cycles.{plan_or_cycle}
-use Rattle.parts_apart.specs.Apart.{IsPartAt}
+use Rattle.query_strategy.specs.Apart.{IsPartAt}
 use Rattle.plan_sql.specs.Statement.{sql_of}
 use Rattle.plan_sql.proofs.Exact.{sql_is_exact, sql_shows_once}
 use Rattle.plan_sql.proofs.Named.{sql_is_named}

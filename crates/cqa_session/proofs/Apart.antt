@@ -9,7 +9,7 @@ use Rattle.cqa_model.specs.Certain.{IsCertain}
 use Rattle.cqa_model.specs.Unions.{IsCertainIn}
 use Rattle.spj_syntax.specs.declared.tree.Select.{Select}
 use Rattle.plan_sql.specs.Laws.{IsExactSql}
-use Rattle.parts_apart.specs.Apart.{AreApart}
+use Rattle.query_strategy.specs.Apart.{AreApart}
 use Rattle.union_ask.specs.Apart.{AreApartFor}
 use Rattle.union_ask.specs.Laws.{CandidatesDecide}
 use Rattle.query_replies.specs.Parts.{SqlPart, queries_of, IsSqlPartOf, IsExactUnion, UnionMeans, TellsSqlOfParts}

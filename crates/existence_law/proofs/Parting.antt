@@ -11,8 +11,8 @@ use Rattle.cqa_model.specs.Query.{atom_at}
 use Rattle.cqa_model.proofs.Classic.{find_in}
 use Rattle.cqa_model.proofs.Values.{dec_by, dec_not}
 use Rattle.existence_law.proofs.Extremes.{first_among}
-use Rattle.parts_apart.specs.declared.shared.Shared.{Shared}
-use Rattle.parts_apart.specs.Apart.{IsPartAt, IsLooseAt, HasLoose, IsShared, AreApart, IsFirstShared}
+use Rattle.query_strategy.specs.declared.shared.Shared.{Shared}
+use Rattle.query_strategy.specs.Apart.{IsPartAt, IsLooseAt, HasLoose, IsShared, AreApart, IsFirstShared}
 use Rattle.union_ask.proofs.Apart.{dec_has_loose}
 use Rattle.existence_law.specs.UnionParts.{PartsAreDecided}
 

@@ -1,8 +1,8 @@
 -- Whether the parts of a union share a table that isn't strict.
 use Rattle.std.specs.Prelude.{◌⊎◌, List}
 use Rattle.cqa_model.specs.declared.query.Query.{Query}
-use Rattle.parts_apart.specs.declared.shared.Shared.{Shared}
-use Rattle.parts_apart.specs.Apart.{AreApart, IsFirstShared}
+use Rattle.query_strategy.specs.declared.shared.Shared.{Shared}
+use Rattle.query_strategy.specs.Apart.{AreApart, IsFirstShared}
 
 -- They are apart, or there is a first table that two of them share.
 abbrev pub PartsAreDecided : Type 0

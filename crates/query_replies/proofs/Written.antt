@@ -10,7 +10,7 @@ use Rattle.spj_syntax.specs.declared.tree.Select.{Select}
 use Rattle.query_resolve.specs.Resolved.{AreQueriesOf, IsAtomOf, IsQueryOf}
 use Rattle.query_resolve.proofs.Lookups.{zip_at}
 use Rattle.plan_sql.specs.Statement.{sql_of}
-use Rattle.parts_apart.specs.Apart.{IsPartAt}
+use Rattle.query_strategy.specs.Apart.{IsPartAt}
 use Rattle.query_replies.specs.Names.{query_names}
 use Rattle.query_replies.specs.Sql.{IsSqlOf}
 use Rattle.query_replies.specs.Parts.{SqlPart, text_of, IsSqlPartOf, HasText, HaveTexts, HasPlan}

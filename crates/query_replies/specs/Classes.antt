@@ -7,8 +7,8 @@ use Rattle.cqa_model.specs.Variables.{whole}
 use Rattle.query_class.specs.Cycles.{IsClass}
 use Rattle.spj_syntax.specs.declared.tree.Select.{Select}
 use Rattle.query_resolve.specs.Resolved.{IsQueryOf}
-use Rattle.parts_apart.specs.declared.shared.Shared.{Shared}
-use Rattle.parts_apart.specs.Apart.{AreApart, IsFirstShared}
+use Rattle.query_strategy.specs.declared.shared.Shared.{Shared}
+use Rattle.query_strategy.specs.Apart.{AreApart, IsFirstShared}
 use Rattle.reply_text.specs.declared.reply.PartClass.{PartClass}
 use Rattle.reply_text.specs.declared.reply.Reply.{Reply}
 use Rattle.reply_text.specs.declared.reply.Reply.TheVariants.{ClassifiedParts}

@@ -16,8 +16,8 @@ use Rattle.sql_text.specs.declared.syntax.Sql.{Sql}
 use Rattle.sql_text.specs.Meaning.{Means}
 use Rattle.sql_text.specs.Texts.{sql_bytes}
 use Rattle.plan_sql.specs.Statement.{sql_of}
-use Rattle.parts_apart.specs.declared.shared.Shared.{Shared}
-use Rattle.parts_apart.specs.Apart.{AreApart, IsFirstShared, IsPartAt}
+use Rattle.query_strategy.specs.declared.shared.Shared.{Shared}
+use Rattle.query_strategy.specs.Apart.{AreApart, IsFirstShared, IsPartAt}
 use Rattle.reply_text.specs.declared.reply.Reply.{Reply}
 use Rattle.reply_text.specs.declared.reply.Reply.TheVariants.{SqlParts, NoPlanOf, Shares}
 use Rattle.query_replies.specs.Names.{table_name_at, query_names}

@@ -3,14 +3,14 @@
 ghost use Rattle.std.specs.Prelude.{◌≤◌, IfOk, length};
 ghost use Rattle.cqa_model.specs.declared.limits.TheConstants.{MOST_SELECTS};
 ghost use Rattle.cqa_model.specs.Unions.{AreParts};
-ghost use Rattle.parts_apart.specs.Apart.{IsFirstShared};
+ghost use Rattle.query_strategy.specs.Apart.{IsFirstShared};
 ghost use Rattle.query_replies.specs.Classes.{IsSharedName};
 ghost use Rattle.query_replies.specs.Parts.{TellsShared};
 
 use crate::names::name_of;
 use cqa_model::Query;
 use cqa_value::{Name, NoMemory};
-use parts_apart::{Shared, shared_table};
+use query_strategy::{Shared, shared_table};
 use reply_text::Reply;
 use std::alloc::Global;
 use table_blocks::Database;

@@ -10,7 +10,7 @@ use crate::shares::{shared_name, shares_of};
 use crate::texts::sql_of_query;
 use cqa_model::Query;
 use cqa_value::{Items, NoMemory};
-use parts_apart::shared_table;
+use query_strategy::shared_table;
 use reply_text::{PartClass, Reply};
 use spj_syntax::Select;
 use std::alloc::Global;

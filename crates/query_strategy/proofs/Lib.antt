@@ -1,1 +1,3 @@
 mod Mutual
+pub mod ByIndex
+mod Places

@@ -1,7 +1,12 @@
-//! The method by which the rows of a query are decided: by a plan, as a pair, or by search.
+//! How queries are decided: the method for the rows of one, by a plan, as a pair, or by search; and whether the parts of a union
+//! are apart: no table whose rows differ between repairs stands in two of them.
 #![tactic(auto)]
 
+mod laws;
 mod pair;
+mod shared;
 mod strategy;
 
+pub use laws::apart_by_index;
+pub use shared::{Shared, has_loose, shared_table};
 pub use strategy::{Strategy, strategy_by_sizes, strategy_of};

@@ -20,7 +20,7 @@ use Rattle.cqa_model.proofs.Fitting.{fits_tables}
 use Rattle.cqa_model.proofs.Repairs.{sublist-stored}
 use Rattle.cqa_model.proofs.Values.{dec_by}
 use Rattle.cqa_model.proofs.Witnesses.{dec_witness, witness-stored}
-use Rattle.parts_apart.specs.Apart.{AreApart, HasLoose}
+use Rattle.query_strategy.specs.Apart.{AreApart, HasLoose}
 use Rattle.part_search.specs.Parts.{AllFit}
 use Rattle.union_ask.specs.Apart.{AreApartFor, IsCandidateAt}
 use Rattle.union_ask.specs.Laws.{ApartDecide, CandidatesDecide}

@@ -3,7 +3,7 @@ use Rattle.std.proofs.Common.{◌≡◌, ◌∙◌, ◌<◌, ◌+◌, ℕ, inl, 
 use Rattle.std.proofs.lemmas.List.{get_or_default}
 use Rattle.cqa_value.proofs.Words.{cases_next}
 use Rattle.cqa_model.specs.declared.query.Query.{Query}
-use Rattle.parts_apart.specs.Apart.{IsPartAt}
+use Rattle.query_strategy.specs.Apart.{IsPartAt}
 use Rattle.union_ask.specs.Apart.{IsGivenPart, ShareLoose, SharesLater}
 
 module _ (parts : List Query) (given : List Bool) where

@@ -4,7 +4,7 @@ use Rattle.cqa_value.specs.declared.value.Value.{Value}
 use Rattle.cqa_model.specs.declared.query.Query.{Query}
 use Rattle.cqa_model.specs.Database.{Table}
 use Rattle.cqa_model.specs.Certain.{IsCandidate}
-use Rattle.parts_apart.specs.Apart.{HasLoose, IsPartAt}
+use Rattle.query_strategy.specs.Apart.{HasLoose, IsPartAt}
 
 -- some table that isn't strict is in both queries
 abbrev pub ShareLoose : Query → Query → Type 0

@@ -10,7 +10,7 @@ use Rattle.cnf_form.specs.Literals.{literals, SatisfiesAll}
 use Rattle.cdcl.specs.Outcomes.{IsModel}
 use Rattle.row_lists.specs.declared.formula.Encoded.{Encoded}
 use Rattle.part_search.specs.Parts.{AllFit}
-use Rattle.parts_apart.specs.Apart.{AreApart}
+use Rattle.query_strategy.specs.Apart.{AreApart}
 use Rattle.union_ask.specs.Apart.{AreApartFor}
 use Rattle.union_ask.specs.Encodings.{IsEncodedIn}
 use Rattle.union_ask.specs.Repairs.{IsUnionRepair, AreUnionPicks, RejectsIn}

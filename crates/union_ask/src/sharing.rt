@@ -4,7 +4,7 @@ ghost use Rattle.std.specs.Prelude.{◌≡◌, ◌<◌, ◌↔◌, IsTrue, lengt
 ghost use Rattle.union_ask.specs.Apart.{AreApartAmong, ShareLoose, SharesLater};
 
 use cqa_model::Query;
-use parts_apart::has_loose;
+use query_strategy::has_loose;
 
 /// Is some table that isn't strict in both queries?
 fn share_loose(first: &Query, second: &Query) -> bool

@@ -4,7 +4,7 @@ use Rattle.cqa_model.specs.declared.query.Query.{Query}
 use Rattle.cqa_model.specs.Database.{Table}
 use Rattle.spj_syntax.specs.declared.tree.Select.{Select}
 use Rattle.query_resolve.specs.Resolved.{AreQueriesOf}
-use Rattle.parts_apart.specs.Apart.{AreApart}
+use Rattle.query_strategy.specs.Apart.{AreApart}
 use Rattle.query_replies.specs.Parts.{SqlPart, text_of, AreSqlPartsOf, IsExactUnion, TellsSqlOfParts}
 use Rattle.reply_text.specs.declared.reply.Reply.{Reply}
 use Rattle.reply_text.specs.declared.reply.Reply.TheVariants.{SqlParts}

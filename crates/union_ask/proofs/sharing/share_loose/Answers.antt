@@ -2,7 +2,7 @@ use Rattle.std.proofs.Common.{◌≡◌, ◌∙◌, ◌<◌, List, [], false, ap
 use Rattle.std.proofs.lemmas.List.{get_or_default}
 use Rattle.cqa_model.specs.declared.query.Atom.{Atom}
 use Rattle.cqa_model.specs.Query.{atom_at}
-use Rattle.parts_apart.specs.Apart.{HasLoose}
+use Rattle.query_strategy.specs.Apart.{HasLoose}
 use Rattle.union_ask.proofs.sharing.share_loose.Goals as goal
 
 pub returns-then-has_loose : goal.returns-then-has_loose

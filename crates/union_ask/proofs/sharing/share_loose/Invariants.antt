@@ -1,5 +1,5 @@
 use Rattle.std.proofs.Common.{ℕ, ◌<◌}
-use Rattle.parts_apart.specs.Apart.{HasLoose, IsLooseAt}
+use Rattle.query_strategy.specs.Apart.{HasLoose, IsLooseAt}
 use Rattle.union_ask.proofs.sharing.share_loose.Given as goal
 
 -- none of the tables of the atoms so far

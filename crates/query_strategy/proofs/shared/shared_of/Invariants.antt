@@ -1,7 +1,7 @@
 use Rattle.std.proofs.Common.{◌≡◌, ◌≤◌}
-use Rattle.parts_apart.specs.declared.shared.Shared.{Shared}
-use Rattle.parts_apart.specs.Apart.{IsShared}
-use Rattle.parts_apart.proofs.shared.shared_of.Given as goal
+use Rattle.query_strategy.specs.declared.shared.Shared.{Shared}
+use Rattle.query_strategy.specs.Apart.{IsShared}
+use Rattle.query_strategy.proofs.shared.shared_of.Given as goal
 
 -- none of the part's tables so far
 abbrev pub invariant-loop-atom : goal.invariant-loop-atom

@@ -4,8 +4,8 @@ use Rattle.std.proofs.lemmas.List.{get_or_default}
 use Rattle.cqa_model.specs.declared.query.Atom.{Atom}
 use Rattle.cqa_model.specs.declared.query.Query.{Query}
 use Rattle.cqa_model.specs.Query.{atom_at}
-use Rattle.parts_apart.specs.declared.shared.Shared.{Shared}
-use Rattle.parts_apart.specs.Apart.{IsPartAt, IsLooseAt, IsLater, IsShared}
+use Rattle.query_strategy.specs.declared.shared.Shared.{Shared}
+use Rattle.query_strategy.specs.Apart.{IsPartAt, IsLooseAt, IsLater, IsShared}
 
 -- one part stands at a place
 pub one_query : (parts : List Query) (k : ℕ) (p q : Query) → IsPartAt parts k p → IsPartAt parts k q → p ≡ q

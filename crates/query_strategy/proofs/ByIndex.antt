@@ -7,7 +7,7 @@ use Rattle.std.proofs.lemmas.Bool.{cases_order}
 use Rattle.cqa_model.specs.declared.query.Query.{Query}
 use Rattle.cqa_model.specs.Database.{Table, marks_of}
 use Rattle.cqa_model.specs.Query.{atom_at, IsStrict, FitsDatabase}
-use Rattle.parts_apart.specs.Apart.{ApartByIndex, AreApart, IsPartAt, IsLooseAt}
+use Rattle.query_strategy.specs.Apart.{ApartByIndex, AreApart, IsPartAt, IsLooseAt}
 
 module _ (db : List Table) (d : Query) (parts : List Query) (fits : (q : Query) → Contains parts q → FitsDatabase q db) (apart : AreApart parts) where
   abbrev part_at : ℕ → Query

@@ -2,9 +2,9 @@ use Rattle.std.proofs.Common.{◌≡◌, ◌<◌, ◌∙◌, List, false, length
 use Rattle.cqa_model.specs.declared.query.Atom.{Atom}
 use Rattle.cqa_model.specs.declared.query.Query.{Query}
 use Rattle.cqa_model.specs.Query.{atom_at}
-use Rattle.parts_apart.specs.Apart.{IsPartAt}
-use Rattle.parts_apart.proofs.Places.{passed, atom_is, of_part, later_again}
-use Rattle.parts_apart.proofs.shared.shared_of.Goals as goal
+use Rattle.query_strategy.specs.Apart.{IsPartAt}
+use Rattle.query_strategy.proofs.Places.{passed, atom_is, of_part, later_again}
+use Rattle.query_strategy.proofs.shared.shared_of.Goals as goal
 
 pub loop-atom-preserved-then-atoms-atom : goal.loop-atom-preserved-then-atoms-atom
 loop-atom-preserved-then-atoms-atom c x s e = passed c.loop-atom.atom x.atom (c.loop-atom.invariant x s e) (λ same.

@@ -1,9 +1,9 @@
 use Rattle.std.proofs.Common.{◌≤◌, ℕ, List, Option, Some, None, IfSome, sym, subst, ◌∙◌}
 use Rattle.cqa_model.specs.declared.query.Query.{Query}
-use Rattle.parts_apart.specs.declared.shared.Shared.{Shared}
-use Rattle.parts_apart.specs.Apart.{IsShared, IsFirstOf, IsFirstShared}
-use Rattle.parts_apart.proofs.Places.{passed}
-use Rattle.parts_apart.proofs.shared.shared_table.Goals as goal
+use Rattle.query_strategy.specs.declared.shared.Shared.{Shared}
+use Rattle.query_strategy.specs.Apart.{IsShared, IsFirstOf, IsFirstShared}
+use Rattle.query_strategy.proofs.Places.{passed}
+use Rattle.query_strategy.proofs.shared.shared_table.Goals as goal
 
 -- the first one of the first part that has one is the first of all
 first_of_all : (parts : List Query) (first : ℕ) (o : Option Shared) → IfSome o (IsFirstOf parts first) → ((x : Shared) → IsShared parts x → first ≤ x.first) → IfSome o (IsFirstShared parts)

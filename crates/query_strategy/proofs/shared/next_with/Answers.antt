@@ -1,7 +1,7 @@
 use Rattle.std.proofs.Common.{subst, sym, arith}
-use Rattle.parts_apart.specs.Apart.{IsPartAt, HasLoose}
-use Rattle.parts_apart.proofs.Places.{one_query, passed}
-use Rattle.parts_apart.proofs.shared.next_with.Goals as goal
+use Rattle.query_strategy.specs.Apart.{IsPartAt, HasLoose}
+use Rattle.query_strategy.proofs.Places.{one_query, passed}
+use Rattle.query_strategy.proofs.shared.next_with.Goals as goal
 
 pub returns-then-has_loose-clause-some : goal.returns-then-has_loose-clause-some
 returns-then-has_loose-clause-some c = (omega (arith, c.loop-second.auto.second), (c.index-parts-second.result, (c.loop-second-test.true, sym c.index-parts-second.is), c.has_loose.ensures.0 c.if-has_loose.true))

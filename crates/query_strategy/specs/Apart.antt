@@ -3,7 +3,7 @@ use Rattle.std.specs.Prelude.{◌≡◌, ◌<◌, ◌≤◌, ◌⊎◌, ℕ, fal
 use Rattle.cqa_model.specs.declared.query.Query.{Query}
 use Rattle.cqa_model.specs.Database.{Table}
 use Rattle.cqa_model.specs.Query.{atom_at, IsStrict, FitsDatabase}
-use Rattle.parts_apart.specs.declared.shared.Shared.{Shared}
+use Rattle.query_strategy.specs.declared.shared.Shared.{Shared}
 
 -- the part at a place
 abbrev pub IsPartAt : List Query → ℕ → Query → Type 0

@@ -1,6 +1,6 @@
 use Rattle.std.proofs.Common.{ℕ, ◌≤◌}
-use Rattle.parts_apart.specs.Apart.{IsLater}
-use Rattle.parts_apart.proofs.shared.next_with.Given as goal
+use Rattle.query_strategy.specs.Apart.{IsLater}
+use Rattle.query_strategy.proofs.shared.next_with.Given as goal
 
 -- none of the parts so far
 abbrev pub invariant-loop-second : goal.invariant-loop-second

@@ -1,7 +1,7 @@
 //! The first table that isn't strict and stands in two parts of a union.
 
 ghost use Rattle.std.specs.Prelude.{◌≡◌, ◌↔◌, ◌<◌, ◌≤◌, ℕ, length, IsTrue, IsNone, IfSome};
-ghost use Rattle.parts_apart.specs.Apart.{AreApart, HasLoose, IsFirstOf, IsFirstShared, IsLater, IsShared};
+ghost use Rattle.query_strategy.specs.Apart.{AreApart, HasLoose, IsFirstOf, IsFirstShared, IsLater, IsShared};
 
 use cqa_model::Query;
 

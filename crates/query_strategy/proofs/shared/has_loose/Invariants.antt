@@ -1,6 +1,6 @@
 use Rattle.std.proofs.Common.{ℕ, ◌<◌}
-use Rattle.parts_apart.specs.Apart.{IsLooseAt}
-use Rattle.parts_apart.proofs.shared.has_loose.Given as goal
+use Rattle.query_strategy.specs.Apart.{IsLooseAt}
+use Rattle.query_strategy.proofs.shared.has_loose.Given as goal
 
 -- none of the atoms so far
 abbrev pub invariant-loop-atom : goal.invariant-loop-atom

@@ -1,2 +1,0 @@
-pub mod ByIndex
-mod Places
