@@ -3,8 +3,8 @@ use Rattle.std.proofs.Common.{inr, ℕ, Bool, List, Option, Result, Ok, Err, OnO
 use Rattle.reply_text.specs.declared.reply.Reply.{Reply}
 use Rattle.command_shell.specs.declared.ending.Stop.{Stop}
 use Rattle.command_shell.specs.declared.ending.Stop.TheVariants as stops
-use Rattle.cqa_session.specs.State.{State}
-use Rattle.cqa_session.specs.Machine.{Step}
+use Rattle.session_state.specs.State.{State}
+use Rattle.command_shell.specs.Machine.{Step}
 use Rattle.command_shell.specs.Parts.{AnswerRow, ReplyRow}
 
 -- A reply that is written answers its statement.

@@ -11,12 +11,12 @@ use Rattle.query_resolve.specs.Resolved.{IsQueryOf}
 use Rattle.row_answers.specs.declared.side.Side.TheVariants.{Certain, Disputed}
 use Rattle.reply_text.specs.declared.reply.Reply.{Reply}
 use Rattle.reply_text.specs.declared.reply.Reply.TheVariants.{Rows, Classified, Refused}
-use Rattle.cqa_session.specs.State.{State, IsState}
-use Rattle.cqa_session.specs.Machine.{Asks}
-use Rattle.cqa_session.specs.Replying.{Replies}
-use Rattle.cqa_session.specs.Statements.Explain.{MayTell}
-use Rattle.cqa_session.specs.Statements.Against.{TellsAgainst}
-use Rattle.cqa_session.specs.Statements.Prove.{MayProve}
+use Rattle.session_state.specs.State.{State, IsState}
+use Rattle.command_shell.specs.Machine.{Asks}
+use Rattle.session_state.specs.Replying.{Replies}
+use Rattle.reason_statements.specs.Explain.{MayTell}
+use Rattle.reason_statements.specs.Against.{TellsAgainst}
+use Rattle.reason_statements.specs.Prove.{MayProve}
 use Rattle.command_shell.specs.Changing.{GoesOnTo}
 use Rattle.reading_law.proofs.Queries.{queries_are_resolved}
 use Rattle.existence_law.proofs.Answering.{answers_exist}

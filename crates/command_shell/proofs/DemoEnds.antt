@@ -9,12 +9,12 @@ use Rattle.command_shell.specs.declared.ending.Stop.{Stop}
 use Rattle.command_shell.specs.declared.ending.Stop.TheVariants as stops
 use Rattle.command_shell.specs.declared.ending.Ending.{Ending}
 use Rattle.command_shell.specs.declared.ending.Ending.TheVariants.{Answered, WithRefusal}
-use Rattle.cqa_session.specs.State.{State}
+use Rattle.session_state.specs.State.{State}
 use Rattle.cqa_model.specs.Database.{row_total}
 use Rattle.case_maker.specs.Scripts.{script_bytes}
 use Rattle.command_shell.specs.declared.tally.Tally.{Tally}
-use Rattle.cqa_session.specs.Runs.{has_refusal}
-use Rattle.command_shell.specs.Runs.{GoesOnFrom}
+use Rattle.command_shell.specs.Runs.{has_refusal}
+use Rattle.command_shell.specs.GoingOn.{GoesOnFrom}
 use Rattle.command_shell.specs.Demo.{line_text, AnswersAll, BreaksOffIn, StopsIn}
 use Rattle.command_shell.specs.Parts.{ending_of, WriteRow}
 use Rattle.command_shell.proofs.Tallied.{some_refused, at_its_end}

@@ -16,18 +16,18 @@ use Rattle.query_resolve.specs.Names.{columns_at}
 use Rattle.query_resolve.specs.Checks.{goal_fault, tests_fault, group_fault, range_join_fault, union_fault, union_row_fault}
 use Rattle.query_resolve.specs.Resolved.{AreQueriesOf}
 use Rattle.reply_text.specs.declared.reply.Reply.TheVariants.{Rows, Conflicts, Tables, Contested, Dumped, Refused}
-use Rattle.cqa_session.specs.State.{State, IsState}
-use Rattle.cqa_session.specs.Saying.{Says}
-use Rattle.cqa_session.specs.Machine.{fault_in, Executes, Does, Step}
-use Rattle.cqa_session.specs.Statements.Range.{asked_fault, range_fault, TellsRange}
-use Rattle.cqa_session.specs.Statements.RangeOfJoin.{TellsRangeJoin}
-use Rattle.cqa_session.specs.Statements.ExplainUnion.{MayTellUnion, ExplainsUnion}
-use Rattle.cqa_session.specs.Statements.AskUnion.{AnswersUnion}
-use Rattle.cqa_session.specs.Statements.PossibleUnion.{AnswersPossibleUnion}
-use Rattle.cqa_session.specs.Statements.ClassifyUnion.{ClassifiesUnion}
-use Rattle.cqa_session.specs.Statements.SqlUnion.{WritesUnionSql}
-use Rattle.cqa_session.specs.Statements.ShowLog.{kept_reply}
-use Rattle.cqa_session.proofs.Sayings.{says_something}
+use Rattle.session_state.specs.State.{State, IsState}
+use Rattle.command_shell.specs.Saying.{Says}
+use Rattle.command_shell.specs.Machine.{fault_in, Executes, Does, Step}
+use Rattle.query_statements.specs.Range.{asked_fault, range_fault, TellsRange}
+use Rattle.query_statements.specs.RangeOfJoin.{TellsRangeJoin}
+use Rattle.reason_statements.specs.ExplainUnion.{MayTellUnion, ExplainsUnion}
+use Rattle.query_statements.specs.AskUnion.{AnswersUnion}
+use Rattle.query_statements.specs.PossibleUnion.{AnswersPossibleUnion}
+use Rattle.query_statements.specs.ClassifyUnion.{ClassifiesUnion}
+use Rattle.query_statements.specs.SqlUnion.{WritesUnionSql}
+use Rattle.session_state.specs.ShowLog.{kept_reply}
+use Rattle.command_shell.proofs.Sayings.{says_something}
 use Rattle.command_shell.specs.Changing.{GoesOnTo}
 use Rattle.command_shell.proofs.States.{found_on}
 use Rattle.command_shell.proofs.Whole.{creates_go_on, alters_go_on, inserts_go_on, deletes_go_on, prefers_go_on, copies_go_on}

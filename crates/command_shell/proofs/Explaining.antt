@@ -24,9 +24,9 @@ use Rattle.refusals.specs.declared.refusal.Refusal.TheVariants.{WitnessLimit}
 use Rattle.reply_text.specs.declared.reply.Proof.{Proof}
 use Rattle.reply_text.specs.declared.reply.Reply.TheVariants.{ByBlock, ByRefutation, Rejected, Refused}
 use Rattle.weak_pairs.specs.Pairs.{IsPair}
-use Rattle.cqa_session.specs.State.{State, IsState}
-use Rattle.cqa_session.specs.Statements.Explain.{MayTell}
-use Rattle.cqa_session.specs.Statements.Kept.{kept_line}
+use Rattle.session_state.specs.State.{State, IsState}
+use Rattle.reason_statements.specs.Explain.{MayTell}
+use Rattle.query_replies.specs.Kept.{kept_line}
 use Rattle.command_shell.specs.Changing.{GoesOnTo}
 
 -- a proof that is kept leaves a state as it was

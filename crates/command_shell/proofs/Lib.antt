@@ -13,6 +13,7 @@ pub mod Planning
 pub mod Progress
 pub mod Ranging
 pub mod Running
+pub mod Sayings
 pub mod ShownLines
 pub mod Siding
 pub mod States

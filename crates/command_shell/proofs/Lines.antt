@@ -10,7 +10,7 @@ use Rattle.input_check.specs.declared.reply.CheckReply.TheVariants.{Verified, Ba
 use Rattle.input_check.specs.Inputs.{ChecksInput, IsShown}
 use Rattle.input_check.specs.Verdicts.{IsVerdict, BeginsVerdict, input_line, is_shown}
 use Rattle.cqa_io.specs.Causes.{Rose}
-use Rattle.cqa_session.specs.State.{State}
+use Rattle.session_state.specs.State.{State}
 use Rattle.command_shell.specs.declared.ending.Command.TheVariants.{Check}
 use Rattle.command_shell.specs.declared.ending.ReadEnd.TheVariants as reading
 use Rattle.command_shell.specs.Parts.{ReadRow, WriteRow, VerdictRow, ending_of}

@@ -5,8 +5,8 @@ use Rattle.script_lex.specs.Scripts.{Statement, Begins}
 use Rattle.script_lex.proofs.Statements.{Begins-append}
 use Rattle.reply_text.specs.declared.reply.Reply.{Reply}
 use Rattle.reply_text.specs.Texts.{is_refusal}
-use Rattle.cqa_session.specs.State.{State}
-use Rattle.cqa_session.specs.Runs.{Run, Answers, CutShort, ReachesLast, text_of, has_refusal}
+use Rattle.session_state.specs.State.{State}
+use Rattle.command_shell.specs.Runs.{Run, Answers, CutShort, ReachesLast, text_of, has_refusal}
 use Rattle.command_shell.proofs.Written.{run_join}
 use Rattle.command_shell.specs.Taking.{TakesReplies, TakesLast, TakesRun, HandsAnswers}
 use Rattle.command_shell.proofs.Progress.{text_of-append, after_whole}

@@ -10,9 +10,9 @@ use Rattle.existence_law.proofs.Naming.{witnesses_are_listed}
 use Rattle.join_access.specs.Listing.{HasTooMany}
 use Rattle.refusals.specs.declared.refusal.Refusal.TheVariants.{WitnessLimit}
 use Rattle.reply_text.specs.declared.reply.Reply.TheVariants.{Certain, Against, Refused}
-use Rattle.cqa_session.specs.State.{State, IsState}
-use Rattle.cqa_session.specs.Statements.Against.{TellsAgainst}
-use Rattle.cqa_session.specs.Statements.Kept.{kept_line}
+use Rattle.session_state.specs.State.{State, IsState}
+use Rattle.reason_statements.specs.Against.{TellsAgainst}
+use Rattle.query_replies.specs.Kept.{kept_line}
 use Rattle.command_shell.specs.Changing.{GoesOnTo}
 
 module _ (old : State) (q : Query) (row : List Value) (is : IsState old) (fits : FitsDatabase q old.tables) where

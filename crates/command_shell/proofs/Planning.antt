@@ -30,10 +30,10 @@ use Rattle.existence_law.proofs.Rejecting.{rejections_exist}
 use Rattle.refusals.specs.declared.refusal.Refusal.TheVariants.{CertificateLimit}
 use Rattle.reply_text.specs.declared.reply.Reply.{Reply}
 use Rattle.reply_text.specs.declared.reply.Reply.TheVariants.{Steps, NoPlan, Sql, Certificate, Rejected, Refused}
-use Rattle.cqa_session.specs.Statements.Kept.{kept_line}
-use Rattle.cqa_session.specs.Statements.Plan.{names_at, TellsPlan}
-use Rattle.cqa_session.specs.Statements.Prove.{Proves}
-use Rattle.cqa_session.specs.Statements.Sql.{TellsSql}
+use Rattle.query_replies.specs.Kept.{kept_line}
+use Rattle.query_statements.specs.Plan.{names_at, TellsPlan}
+use Rattle.reason_statements.specs.Prove.{Proves}
+use Rattle.query_statements.specs.Sql.{TellsSql}
 use Rattle.fo_rewrite.proofs.Distinct.{plan-atoms}
 
 pub plans_are_told : (q : Query) (names : List (List ℕ)) → (reply : Reply) × TellsPlan q names reply

@@ -15,10 +15,10 @@ use Rattle.reply_text.specs.declared.reply.Reply.TheVariants.{Refused}
 use Rattle.reply_text.specs.Texts.{reply_text, is_refusal}
 use Rattle.command_shell.specs.declared.ending.Stop.{Stop}
 use Rattle.command_shell.specs.declared.ending.Stop.TheVariants as stops
-use Rattle.cqa_session.specs.State.{State}
-use Rattle.cqa_session.specs.Machine.{Step}
-use Rattle.cqa_session.specs.Runs.{Run, RunsOver, Closes, CutShort, ReachesLast, text_of, has_refusal}
-use Rattle.command_shell.specs.Runs.{BeginsRun}
+use Rattle.session_state.specs.State.{State}
+use Rattle.command_shell.specs.Machine.{Step}
+use Rattle.command_shell.specs.Runs.{Run, RunsOver, Closes, CutShort, ReachesLast, text_of, has_refusal}
+use Rattle.command_shell.specs.GoingOn.{BeginsRun}
 use Rattle.command_shell.specs.Parts.{AnswerRow, ReplyRow, CloseRow, ProgressRow}
 use Rattle.command_shell.specs.Taking.{TakesReplies, HandsAnswers}
 

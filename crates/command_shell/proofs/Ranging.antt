@@ -17,9 +17,9 @@ use Rattle.reply_text.specs.declared.reply.Reply.{Reply}
 use Rattle.reply_text.specs.declared.reply.Reply.TheVariants as replies
 use Rattle.spj_syntax.specs.declared.tree.RawRange.{RawRange}
 use Rattle.table_blocks.specs.declared.test.ColumnTest.{ColumnTest}
-use Rattle.cqa_session.specs.State.{State, IsState}
-use Rattle.cqa_session.specs.Statements.Range.{chosen_lines, group_line, TellsOf}
-use Rattle.cqa_session.specs.Statements.RangeOfJoin.{TellsJoin, TellsJoinBy, sought_of}
+use Rattle.session_state.specs.State.{State, IsState}
+use Rattle.query_statements.specs.Range.{chosen_lines, group_line, TellsOf}
+use Rattle.query_statements.specs.RangeOfJoin.{TellsJoin, TellsJoinBy, sought_of}
 use Rattle.command_shell.specs.Changing.{GoesOnTo}
 
 pub ranges_are_told : (db : List Table) (table : ℕ) (goal : Goal) (tests : List ColumnTest) (col : Option ℕ) → (reply : Reply) × TellsOf db table goal tests col reply

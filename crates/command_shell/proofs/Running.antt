@@ -9,7 +9,7 @@ use Rattle.reply_text.specs.declared.reply.Reply.{Reply}
 use Rattle.reply_text.specs.declared.reply.Reply.TheVariants.{Refused}
 use Rattle.reading_law.specs.Inputs.{InputsAreCut}
 use Rattle.reading_law.proofs.Firsts.{first_cut}
-use Rattle.cqa_session.specs.Runs.{Closes}
+use Rattle.command_shell.specs.Runs.{Closes}
 use Rattle.command_shell.specs.Laws.{StepsGoOn, RunsGoOn, InputsAreRun}
 
 pub runs_go_on : StepsGoOn → RunsGoOn

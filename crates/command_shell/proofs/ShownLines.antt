@@ -9,8 +9,8 @@ use Rattle.row_cursor.specs.Conflicts.{is_conflict}
 use Rattle.row_cursor.proofs.Parting.{blocks-are, side_by_side}
 use Rattle.reply_text.specs.declared.reply.ConflictLine.{ConflictLine}
 use Rattle.reply_text.specs.declared.reply.TableLine.{TableLine}
-use Rattle.cqa_session.specs.Statements.ShowTables.{IsTableLine}
-use Rattle.cqa_session.specs.Statements.ShowConflicts.{IsConflictLine}
+use Rattle.session_state.specs.ShowTables.{IsTableLine}
+use Rattle.session_state.specs.ShowConflicts.{IsConflictLine}
 
 -- where each member has a line, a list has its lines
 pub all_lines : {A B : Type 0} (Is : A → B → Type 0) (xs : List A) → ((x : A) → Contains xs x → (y : B) × Is x y) → (ys : List B) × AllZip Is xs ys

@@ -17,8 +17,8 @@ use Rattle.reply_text.specs.declared.reply.Reply.TheVariants.{Rows, Refused}
 use Rattle.row_answers.specs.declared.side.Side.{Side}
 use Rattle.row_answers.specs.declared.side.Side.TheVariants.{Certain, Disputed}
 use Rattle.row_answers.specs.Sides.{IsAnswerOf, IsDisputedAnswer}
-use Rattle.cqa_session.specs.State.{State, IsState}
-use Rattle.cqa_session.specs.Statements.Sides.{TellsSide, IsWithinWitnesses}
+use Rattle.session_state.specs.State.{State, IsState}
+use Rattle.query_statements.specs.Sides.{TellsSide, IsWithinWitnesses}
 use Rattle.command_shell.specs.Changing.{GoesOnTo}
 
 -- the disputed rows are the possible ones that aren't certain

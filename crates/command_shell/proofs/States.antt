@@ -7,9 +7,9 @@ use Rattle.refusals.specs.declared.refusal.Refusal.{Refusal}
 use Rattle.refusals.specs.declared.refusal.Refusal.TheVariants.{UnknownTable}
 use Rattle.table_blocks.specs.Tables.{table_named, AreValidTables}
 use Rattle.query_resolve.proofs.Scopes.{table_there}
-use Rattle.cqa_session.specs.State.{State, IsState}
-use Rattle.cqa_session.specs.Replying.{on_table}
-use Rattle.cqa_session.proofs.Valid.{AreNamed, state_of, named_in}
+use Rattle.session_state.specs.State.{State, IsState}
+use Rattle.session_state.specs.Replying.{on_table}
+use Rattle.session_state.proofs.Valid.{AreNamed, state_of, named_in}
 
 -- the tables of a valid state
 pub stored_tables : (old : State) → IsState old → AreValidTables old.tables

@@ -8,9 +8,9 @@ use Rattle.command_shell.specs.declared.ending.Command.{Command}
 use Rattle.command_shell.specs.declared.ending.Command.TheVariants.{Run, Check, Demo}
 use Rattle.command_shell.specs.declared.ending.Ending.{Ending}
 use Rattle.command_shell.specs.declared.ending.Ending.TheVariants.{Answered, WithRefusal, BadWords, ReadFault, WriteFault, OutOfMemory, TooLong}
-use Rattle.cqa_session.specs.State.{State}
-use Rattle.cqa_session.specs.Runs.{CutShort}
-use Rattle.command_shell.specs.Runs.{GoesOnFrom}
+use Rattle.session_state.specs.State.{State}
+use Rattle.command_shell.specs.Runs.{CutShort}
+use Rattle.command_shell.specs.GoingOn.{GoesOnFrom}
 use Rattle.command_shell.proofs.Written.{begins_run}
 use Rattle.command_shell.specs.Top.{Call, Ended, Outside, RunRow, CheckRow, DemoRow, BreaksOff, CountsReadFault, CountsWriteFault, IsAllRead, code_of, limit, within_limit, IsWithinLimit, IsCompleted}
 

@@ -9,8 +9,8 @@ use Rattle.reply_text.specs.Texts.{is_refusal}
 use Rattle.command_shell.specs.declared.ending.Ending.{Ending}
 use Rattle.command_shell.specs.declared.ending.Ending.TheVariants as endings
 use Rattle.command_shell.specs.declared.tally.Tally.{Tally}
-use Rattle.cqa_session.specs.State.{State}
-use Rattle.cqa_session.specs.Runs.{Run, RunsOver, Answers, has_refusal}
+use Rattle.session_state.specs.State.{State}
+use Rattle.command_shell.specs.Runs.{Run, RunsOver, Answers, has_refusal}
 use Rattle.command_shell.specs.Demo.{rows_to, refusals, AnswersAll, StopsIn}
 use Rattle.command_shell.specs.Tallying.{AddsReply}
 use Rattle.command_shell.specs.Taking.{TakesReplies, TakesLast, TakesRun, HandsOn}

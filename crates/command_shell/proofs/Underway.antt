@@ -9,11 +9,11 @@ use Rattle.cqa_io.specs.Causes.{Rose}
 use Rattle.command_shell.specs.declared.ending.Ending.TheVariants as endings
 use Rattle.command_shell.specs.declared.ending.Stop.{Stop}
 use Rattle.command_shell.specs.declared.ending.Stop.TheVariants as reasons
-use Rattle.cqa_session.specs.State.{State}
-use Rattle.cqa_session.specs.Runs.{Answers, CutShort}
+use Rattle.session_state.specs.State.{State}
+use Rattle.command_shell.specs.Runs.{Answers, CutShort}
 use Rattle.reply_text.specs.declared.reply.Reply.{Reply}
 use Rattle.command_shell.specs.Taking.{HandsAnswers, HandsOn}
-use Rattle.command_shell.specs.Runs.{GoesOnFrom}
+use Rattle.command_shell.specs.GoingOn.{GoesOnFrom}
 use Rattle.command_shell.specs.Top.{Call, Outside, BreaksOff, limit, told}
 use Rattle.command_shell.specs.Parts.{ProgressRow, ending_of, ending_with}
 use Rattle.command_shell.proofs.Progress.{nothing_answered, nothing_written, nothing_begun}

@@ -21,8 +21,8 @@ use Rattle.reply_text.specs.declared.reply.Reply.TheVariants.{SqlParts, NoPlanOf
 use Rattle.spj_syntax.specs.declared.tree.Select.{Select}
 use Rattle.union_ask.specs.Laws.{CandidatesDecide}
 use Rattle.existence_law.proofs.Parting.{parts_are_decided}
-use Rattle.cqa_session.specs.Statements.SqlUnion.{TellsUnionSql}
-use Rattle.cqa_session.proofs.Apart.{union_told}
+use Rattle.query_statements.specs.SqlUnion.{TellsUnionSql}
+use Rattle.query_statements.proofs.Apart.{union_told}
 
 -- every part has a plan, or there is a first one that has none
 first_unplanned : (parts : List Query) → ((q : Query) → Contains parts q → HasPlan q) ⊎ ((number : ℕ) × IsFirstUnplanned parts number)

@@ -23,11 +23,12 @@ use Rattle.existence_law.specs.UnionAnswers.{UnionAnswersExist}
 use Rattle.existence_law.specs.UnionReasons.{UnionReasonsExist}
 use Rattle.existence_law.proofs.UnionAnswering.{union_first_over_exists}
 use Rattle.existence_law.proofs.Parting.{parts_are_decided}
-use Rattle.cqa_session.specs.State.{State, IsState}
-use Rattle.cqa_session.specs.Statements.AskUnion.{TellsUnion}
-use Rattle.cqa_session.specs.Statements.ExplainUnion.{MayTellUnion}
-use Rattle.cqa_session.specs.Statements.Kept.{kept_line}
-use Rattle.cqa_session.proofs.Spending.{spends_in}
+use Rattle.session_state.specs.State.{State, IsState}
+use Rattle.query_statements.specs.AskUnion.{TellsUnion}
+use Rattle.reason_statements.specs.ExplainUnion.{MayTellUnion}
+use Rattle.query_replies.specs.Kept.{kept_line}
+use Rattle.union_ask.specs.Searching.{IsSpentIn}
+use Rattle.session_state.proofs.Spending.{spends}
 use Rattle.command_shell.specs.Changing.{GoesOnTo}
 use Rattle.command_shell.proofs.Classing.{classes_are_told}
 use Rattle.command_shell.proofs.Explaining.{kept_proof}
@@ -51,7 +52,7 @@ module _ (old : State) (parts : List Query) (row : List Value) (is : IsState old
   untold_told (untold.Spent cnf log) h =
       let proof : Proof = record { cnf = cnf; log = log } in
       let new : State = record old { last_log = Some proof } in
-      (Refused (refusals.Spent row old.budget), new, ((refl, h.0, spends_in old new parts row old.budget proof h.1 refl refl), kept_proof old proof is))
+      (Refused (refusals.Spent row old.budget), new, ((refl, h.0, spends (IsSpentIn old.tables parts old.budget row) old new old.budget proof h.1 h.1.spent refl refl), kept_proof old proof is))
 
 pub union_reasons_are_told : UnionReasonsExist → (old : State) (parts : List Query) (row : List Value) → IsState old → AreParts parts old.tables → GoesOnTo (MayTellUnion old parts row)
 union_reasons_are_told exist old parts row is are = elim (exist old.tables parts row old.budget is.database are.fits) [

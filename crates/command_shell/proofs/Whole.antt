@@ -23,11 +23,11 @@ use Rattle.query_resolve.proofs.Schemas.{free_name, has_room, is_key}
 use Rattle.reading_law.proofs.Members.{schemas_are_resolved, keys_are_resolved, tests_are_resolved}
 use Rattle.reading_law.proofs.Records.{blocks_are_read}
 use Rattle.reply_text.specs.declared.reply.Reply.TheVariants.{Created, Altered, Inserted, Deleted, Copied, Refused}
-use Rattle.cqa_session.specs.State.{State, IsState}
-use Rattle.cqa_session.specs.Statements.Alter.{change_fault, Changes, Alters}
-use Rattle.cqa_session.specs.Statements.Copy.{block_bytes, CopiesInto}
-use Rattle.cqa_session.proofs.Altering.{set_checked}
-use Rattle.cqa_session.proofs.Valid.{named_more, named_schema, named_changed, named_with_rows}
+use Rattle.session_state.specs.State.{State, IsState}
+use Rattle.session_state.specs.Alter.{change_fault, Changes, Alters}
+use Rattle.session_state.specs.Copy.{block_bytes, CopiesInto}
+use Rattle.session_state.proofs.Altering.{set_checked}
+use Rattle.session_state.proofs.Valid.{named_more, named_schema, named_changed, named_with_rows}
 use Rattle.command_shell.specs.Changing.{GoesOnTo, CreatesGoOn, AltersGoOn, InsertsGoOn, DeletesGoOn, PrefersGoOn, CopiesGoOn}
 use Rattle.command_shell.proofs.States.{stored_tables, named_tables, with_tables, changed, IsFound, found_on}
 use Rattle.command_shell.proofs.Tables.{set_strict, drop_strict, set_key, put_key, deletes, put_spared, prefers, put_preferred}

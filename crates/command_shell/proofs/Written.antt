@@ -5,11 +5,11 @@ use Rattle.script_lex.specs.Scripts.{Statement, Begins, HasNoStatement}
 use Rattle.script_lex.proofs.Statements.{Begins-append, begins_first}
 use Rattle.reply_text.specs.declared.reply.Reply.{Reply}
 use Rattle.reply_text.specs.Texts.{reply_text}
-use Rattle.cqa_session.specs.State.{State}
-use Rattle.cqa_session.specs.Runs.{Run, Closes, CutShort, text_of}
+use Rattle.session_state.specs.State.{State}
+use Rattle.command_shell.specs.Runs.{Run, Closes, CutShort, text_of}
 use Rattle.reading_law.specs.Inputs.{InputsAreCut}
 use Rattle.command_shell.specs.Laws.{RunsGoOn, StatesGoOn}
-use Rattle.command_shell.specs.Runs.{GoesOnFrom, BeginsRun}
+use Rattle.command_shell.specs.GoingOn.{GoesOnFrom, BeginsRun}
 use Rattle.command_shell.proofs.Running.{closing}
 
 -- a run goes on with another one from its end

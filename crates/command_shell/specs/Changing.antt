@@ -8,13 +8,13 @@ use Rattle.spj_syntax.specs.declared.tree.RawTest.{RawTest}
 use Rattle.spj_syntax.specs.Written.{HasKey}
 use Rattle.query_resolve.specs.Checks.{schema_fault}
 use Rattle.reply_text.specs.declared.reply.Reply.{Reply}
-use Rattle.cqa_session.specs.State.{State, IsState}
-use Rattle.cqa_session.specs.Statements.Create.{Creates}
-use Rattle.cqa_session.specs.Statements.Alter.{alter_fault, Alters}
-use Rattle.cqa_session.specs.Statements.Insert.{insert_into_fault, InsertsInto}
-use Rattle.cqa_session.specs.Statements.Delete.{delete_from_fault, DeletesFrom}
-use Rattle.cqa_session.specs.Statements.Prefer.{prefer_fault, PrefersIn}
-use Rattle.cqa_session.specs.Statements.Copy.{copy_into_fault, CopiesInto}
+use Rattle.session_state.specs.State.{State, IsState}
+use Rattle.session_state.specs.Create.{Creates}
+use Rattle.session_state.specs.Alter.{alter_fault, Alters}
+use Rattle.session_state.specs.Insert.{insert_into_fault, InsertsInto}
+use Rattle.session_state.specs.Delete.{delete_from_fault, DeletesFrom}
+use Rattle.session_state.specs.Prefer.{prefer_fault, PrefersIn}
+use Rattle.session_state.specs.Copy.{copy_into_fault, CopiesInto}
 
 -- There are a reply that may be given and a valid state to go on to.
 abbrev pub GoesOnTo : (Reply → State → Type 0) → Type 0

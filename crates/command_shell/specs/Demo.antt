@@ -11,9 +11,9 @@ use Rattle.reply_text.specs.declared.reply.Reply.{Reply}
 use Rattle.reply_text.specs.declared.reply.Reply.TheVariants.{Rows}
 use Rattle.reply_text.specs.Texts.{is_refusal}
 use Rattle.command_shell.specs.declared.tally.Tally.{Tally}
-use Rattle.cqa_session.specs.State.{State}
-use Rattle.cqa_session.specs.Runs.{Run, RunsOver, has_refusal}
-use Rattle.command_shell.specs.Runs.{RunsOn}
+use Rattle.session_state.specs.State.{State}
+use Rattle.command_shell.specs.Runs.{Run, RunsOver, has_refusal}
+use Rattle.command_shell.specs.GoingOn.{RunsOn}
 
 -- a size is written by at most six digits, and is from one to the greatest size of a script
 pub record IsSize (digits : List ℕ) (size : ℕ) : Type 0 where

@@ -2,11 +2,11 @@
 use Rattle.std.specs.Prelude.{◌≡◌, ⊤, ℕ, Bool, true, List, Option}
 use Rattle.script_lex.specs.Scripts.{Statement}
 use Rattle.reply_text.specs.declared.reply.Reply.{Reply}
-use Rattle.cqa_session.specs.State.{State, IsState}
-use Rattle.cqa_session.specs.Machine.{Step}
-use Rattle.cqa_session.specs.Runs.{Run, RunsOver, CutShort}
+use Rattle.session_state.specs.State.{State, IsState}
+use Rattle.command_shell.specs.Machine.{Step}
+use Rattle.command_shell.specs.Runs.{Run, RunsOver, CutShort}
 use Rattle.command_shell.specs.Changing.{GoesOnTo}
-use Rattle.command_shell.specs.Runs.{GoesOnFrom, BeginsRun}
+use Rattle.command_shell.specs.GoingOn.{GoesOnFrom, BeginsRun}
 
 -- The law: from each valid state, for each text and each block, there are a reply and a valid state such that the machine may give this reply
 -- and go on to this state.

@@ -1,8 +1,11 @@
+pub mod Saying
+pub mod Machine
+pub mod Runs
 pub mod Changing
 pub mod Demo
+pub mod GoingOn
 pub mod Laws
 pub mod Parts
-pub mod Runs
 pub mod Taking
 pub mod Tallying
 pub mod Top

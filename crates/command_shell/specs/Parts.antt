@@ -13,9 +13,9 @@ use Rattle.command_shell.specs.declared.ending.Stop.TheVariants as stops
 use Rattle.command_shell.specs.declared.ending.Ending.{Ending}
 use Rattle.command_shell.specs.declared.ending.Ending.TheVariants as endings
 use Rattle.input_check.specs.Verdicts.{IsVerdict, BeginsVerdict}
-use Rattle.cqa_session.specs.State.{State}
-use Rattle.cqa_session.specs.Machine.{Step}
-use Rattle.cqa_session.specs.Runs.{CutShort}
+use Rattle.session_state.specs.State.{State}
+use Rattle.command_shell.specs.Machine.{Step}
+use Rattle.command_shell.specs.Runs.{CutShort}
 use Rattle.command_shell.specs.Top.{limit}
 use Rattle.command_shell.specs.Taking.{HandsAnswers}
 

@@ -5,8 +5,8 @@ use Rattle.reply_text.specs.declared.reply.Reply.{Reply}
 use Rattle.command_shell.specs.declared.ending.Command.TheVariants.{Run}
 use Rattle.command_shell.specs.declared.ending.Ending.{Ending}
 use Rattle.command_shell.specs.declared.ending.Ending.TheVariants.{Answered, WithRefusal, BadWords, ReadFault, WriteFault, OutOfMemory, TooLong}
-use Rattle.cqa_session.specs.State.{State}
-use Rattle.cqa_session.specs.Runs.{Answers}
+use Rattle.session_state.specs.State.{State}
+use Rattle.command_shell.specs.Runs.{Answers}
 use Rattle.command_shell.specs.Top.{Ended, Outside}
 
 -- the taker took the replies to these statements, one after another

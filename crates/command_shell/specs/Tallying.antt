@@ -4,7 +4,7 @@ use Rattle.cqa_value.specs.declared.memory.NoMemory.{NoMemory}
 use Rattle.reply_text.specs.declared.reply.Reply.{Reply}
 use Rattle.reply_text.specs.Texts.{is_refusal}
 use Rattle.command_shell.specs.declared.tally.Tally.{Tally}
-use Rattle.cqa_session.specs.State.{State}
+use Rattle.session_state.specs.State.{State}
 use Rattle.command_shell.specs.declared.ending.Stop.{Stop}
 use Rattle.command_shell.specs.declared.ending.Stop.TheVariants as stops
 use Rattle.command_shell.specs.Demo.{rows_after, AnswersAll, StopsIn, IsDemo, BeginsDemo}

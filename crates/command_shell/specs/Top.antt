@@ -8,11 +8,11 @@ use Rattle.command_shell.specs.declared.ending.Command.{Command}
 use Rattle.command_shell.specs.declared.ending.Command.TheVariants.{Run, Check, Demo}
 use Rattle.command_shell.specs.declared.ending.Ending.{Ending}
 use Rattle.command_shell.specs.declared.ending.Ending.TheVariants.{Answered, WithRefusal, BadWords, ReadFault, WriteFault, OutOfMemory, TooLong}
-use Rattle.cqa_session.specs.State.{State}
+use Rattle.session_state.specs.State.{State}
 use Rattle.cqa_model.specs.declared.limits.TheConstants.{LONGEST_INPUT}
 use Rattle.case_maker.specs.Scripts.{script_bytes}
-use Rattle.cqa_session.specs.Runs.{Answers, CutShort}
-use Rattle.command_shell.specs.Runs.{BeginsRun}
+use Rattle.command_shell.specs.Runs.{Answers, CutShort}
+use Rattle.command_shell.specs.GoingOn.{BeginsRun}
 use Rattle.command_shell.specs.Demo.{IsSize, IsDemo, BeginsDemo, BreaksOffIn}
 
 -- the most bytes of input that a call answers

@@ -8,9 +8,9 @@ ghost use Rattle.reply_text.specs.Texts.{is_refusal};
 ghost use Rattle.command_shell.specs.Parts.{CloseRow, AnswerRow, ProgressRow};
 ghost use Rattle.cqa_model.specs.declared.limits.TheConstants.{LONGEST_INPUT};
 
+use crate::Session;
 use crate::ending::Stop;
 use crate::taker::Taker;
-use cqa_session::Session;
 use refusals::Refusal;
 use reply_text::Reply;
 use script_lex::{Cut, Cutter, Span};

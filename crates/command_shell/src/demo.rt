@@ -10,13 +10,13 @@ ghost use Rattle.command_shell.specs.Top.{told, Ended};
 ghost use Rattle.command_shell.specs.Tallying.{InputRow, LineRow};
 ghost use Rattle.cqa_model.specs.declared.limits.TheConstants.{LONGEST_INPUT};
 
+use crate::Session;
 use crate::ending::{Ending, Stop};
 use crate::laws::goes_on;
 use crate::pieces::run;
 use crate::tally::Tally;
 use case_maker::{GREATEST_SIZE, script_of};
 use cqa_io::{CalmSource, Sink, write_all};
-use cqa_session::Session;
 use cqa_value::{NoMemory, read_int};
 use itoa::Buffer;
 use std::alloc::Global;

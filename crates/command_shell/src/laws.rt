@@ -2,9 +2,9 @@
 //! ensures, so the build proves it.
 
 ghost use Rattle.command_shell.specs.Laws.{StepsGoOn, RunsGoOn, InputsAreRun, StatesGoOn, WrittenBeginsRuns};
-ghost use Rattle.command_shell.specs.Runs.{GoesOnFrom};
+ghost use Rattle.command_shell.specs.GoingOn.{GoesOnFrom};
 
-use cqa_session::Session;
+use crate::Session;
 use reading_law::inputs::inputs_are_cut;
 use union_ask::candidates_decide;
 use existence_law::unions::{union_answers_exist, union_reasons_exist};

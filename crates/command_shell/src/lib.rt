@@ -1,19 +1,23 @@
-//! The program itself: the top call, from words and bytes to a status, over a session of the machine. Beside it stand the laws that the
-//! machine always goes on, so that what was written where a run was cut short begins the text of a whole one.
+//! The program itself: the machine of a session, which takes the text of a statement to its reply, and the top call, from words and
+//! bytes to a status. Beside them stand the laws that the machine always goes on, so that what was written where a run was cut short
+//! begins the text of a whole one.
 #![tactic(auto)]
 
 mod answers;
 pub mod changing;
 mod demo;
 mod ending;
+mod execute;
 mod input;
 pub mod laws;
 mod pieces;
+mod reading;
+mod session;
 mod taker;
 mod tally;
 mod top;
 mod verdict;
 
-pub use cqa_session::Session;
 pub use input_check::{CheckReply, check_bytes};
+pub use session::{CONFLICTS, Session, text_says_one_thing, text_says_something};
 pub use top::run_words;

@@ -1,11 +1,12 @@
 //! The loop of `run` and `demo`: each statement is answered as soon as its bytes have come.
 
 ghost use Rattle.std.specs.Prelude.{◌≡◌, ◌≤◌, ◌<◌, [], length};
-ghost use Rattle.command_shell.specs.Runs.{GoesOnFrom};
+ghost use Rattle.command_shell.specs.GoingOn.{GoesOnFrom};
 ghost use Rattle.command_shell.specs.Top.{told};
 ghost use Rattle.command_shell.specs.Taking.{HandsOn};
 ghost use Rattle.command_shell.specs.Parts.{ending_with};
 
+use crate::Session;
 use crate::answers::{answer_held, answer_piece};
 use crate::ending::{Ending, Stop};
 use crate::input::{PIECE, read_piece, zeros};
@@ -13,7 +14,6 @@ use crate::laws::goes_on;
 use crate::taker::Taker;
 use cqa_io::{Failed, Source};
 use cqa_model::LONGEST_INPUT;
-use cqa_session::Session;
 use script_lex::Cutter;
 use std::alloc::Global;
 

@@ -2,17 +2,17 @@
 
 ghost use Rattle.std.specs.Prelude.{◌≡◌, ◌≤◌, ◌∷◌, [], ℕ, Option, Some, MatchOption};
 ghost use Rattle.cqa_io.specs.Causes.{Rose};
-ghost use Rattle.cqa_session.specs.State.{opening, State};
+ghost use Rattle.session_state.specs.State.{opening, State};
 ghost use Rattle.command_shell.specs.declared.ending.Command.TheVariants.{Check as CheckWord, Demo as DemoWord};
 ghost use Rattle.command_shell.specs.Top.{code_of, StandFor, AreWordsFor, IsAskedBy, told, Ended, IsWithinLimit, IsCompleted};
 
+use crate::Session;
 use crate::demo::{demo, size_of};
 use crate::ending::{Command, Ending, ReadEnd, code};
 use crate::input::read_all;
 use crate::pieces::run;
 use crate::verdict::write_verdict;
 use cqa_io::{Sink, Source};
-use cqa_session::Session;
 use std::alloc::Global;
 
 /// Reads the input and writes the line on it, as a formula with a log or a certificate.

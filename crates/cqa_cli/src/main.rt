@@ -1,9 +1,8 @@
 //! The program `cqa`: a machine over its standard input and output.
 #![tactic(auto)]
 
-use command_shell::run_words;
+use command_shell::{CONFLICTS, Session, run_words};
 use cqa_io::{StdSink, StdSource};
-use cqa_session::{CONFLICTS, Session};
 use std::env;
 use std::io::ErrorKind;
 use std::mem::forget;

@@ -1,7 +1,6 @@
 //! Which table that isn't strict stands in two parts of a union, by its name.
 
-ghost use Rattle.std.specs.Prelude.{◌≤◌, IfOk, length};
-ghost use Rattle.cqa_model.specs.declared.limits.TheConstants.{MOST_SELECTS};
+ghost use Rattle.std.specs.Prelude.{IfOk};
 ghost use Rattle.cqa_model.specs.Unions.{AreParts};
 ghost use Rattle.query_strategy.specs.Apart.{IsFirstShared};
 ghost use Rattle.query_replies.specs.Classes.{IsSharedName};

@@ -1,6 +1,6 @@
 //! What is told of the parts of a union: their classes, and their plans in SQL.
 
-ghost use Rattle.std.specs.Prelude.{◌≡◌, [], IfOk, IfSome, IsNone, OnOk};
+ghost use Rattle.std.specs.Prelude.{◌≡◌, [], IfOk, IfSome, IsNone};
 ghost use Rattle.query_resolve.specs.Resolved.{AreQueriesOf, IsQueryOf};
 ghost use Rattle.query_replies.specs.Classes.{AreClassesOf, IsClassOf, TellsClasses};
 ghost use Rattle.query_replies.specs.Parts.{HasText, HaveTexts, IsFirstUnplanned, HasCyclicAttacks, TellsSqlOfParts};

@@ -2,7 +2,7 @@
 use Rattle.std.specs.Prelude.{◌≡◌, ℕ, List, [], Option, Some, map, string_bytes, String}
 use Rattle.std.specs.declared.alloc.Global.{Global}
 use Rattle.cqa_io.specs.Memory.{SourceView, SinkView, faults_of}
-use Rattle.cqa_session.specs.State.{State, opening}
+use Rattle.session_state.specs.State.{State, opening}
 use Rattle.command_shell.specs.declared.ending.Command.{Command}
 use Rattle.command_shell.specs.declared.ending.Ending.{Ending}
 use Rattle.command_shell.specs.Top.{code_of, IsAskedBy, Outside, Ended, told}

@@ -4,9 +4,8 @@ ghost use Rattle.std.specs.Prelude.{◌≡◌, ◌∷◌, [], IfOk, map, max, st
 ghost use Rattle.command_shell.specs.Top.{told};
 ghost use Rattle.script_tests.specs.Calls.{Ends, IsCall};
 
-use command_shell::run_words;
+use command_shell::{CONFLICTS, Session, run_words};
 use cqa_io::{CalmSource, CountSink, MemSink, MemSource, Sink, Source};
-use cqa_session::{CONFLICTS, Session};
 use std::alloc::{AllocError, Global};
 
 /// A call of the program, and how it has to end.

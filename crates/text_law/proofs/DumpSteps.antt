@@ -28,12 +28,12 @@ use Rattle.csv_rows.specs.Dumps.{create_words}
 use Rattle.reply_text.specs.declared.reply.Reply.{Reply}
 use Rattle.reply_text.specs.declared.reply.Reply.TheVariants.{Created, Copied, Inserted, Refused}
 use Rattle.reply_text.specs.Texts.{is_refusal}
-use Rattle.cqa_session.specs.State.{State}
+use Rattle.session_state.specs.State.{State}
 use Rattle.spj_syntax.specs.Texts.{HasStatement}
-use Rattle.cqa_session.specs.Replying.{on_table}
-use Rattle.cqa_session.specs.Machine.{fault_in, Executes, Step}
-use Rattle.cqa_session.specs.Statements.Copy.{TellsCopied}
-use Rattle.cqa_session.proofs.Sayings.{does_as_said}
+use Rattle.session_state.specs.Replying.{on_table}
+use Rattle.command_shell.specs.Machine.{fault_in, Executes, Step}
+use Rattle.session_state.specs.Copy.{TellsCopied}
+use Rattle.command_shell.proofs.Sayings.{does_as_said}
 use Rattle.text_law.proofs.Statements.{raw_of, key_named, columns_named, create_spelled}
 use Rattle.text_law.proofs.Grammar.{create_generated}
 use Rattle.text_law.proofs.Says.{has_statement}

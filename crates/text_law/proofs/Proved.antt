@@ -19,9 +19,9 @@ use Rattle.reading_law.specs.Texts.{HasValidLiteral}
 use Rattle.reading_law.proofs.Storing.{proves_of_valid_values}
 use Rattle.query_resolve.specs.Resolved.{IsCondOf}
 use Rattle.reply_text.specs.declared.reply.Reply.TheVariants.{Certificate}
-use Rattle.cqa_session.specs.State.{State, IsState}
-use Rattle.cqa_session.specs.Statements.Prove.{ProvesRow}
-use Rattle.cqa_session.proofs.Sayings.{does_as_said}
+use Rattle.session_state.specs.State.{State, IsState}
+use Rattle.reason_statements.specs.Prove.{ProvesRow}
+use Rattle.command_shell.proofs.Sayings.{does_as_said}
 use Rattle.text_law.specs.Printed.{HasValidLiterals, IsVerified}
 use Rattle.text_law.proofs.Verified.{printed_is_verified}
 use Rattle.text_law.specs.Proved.{ProvedIsVerified}

@@ -5,8 +5,8 @@ use Rattle.script_lex.specs.Scripts.{IsSpace}
 use Rattle.script_lex.proofs.Statements.{at_most_one_cut}
 use Rattle.reply_text.specs.declared.reply.Reply.{Reply}
 use Rattle.csv_rows.specs.Dumps.{dump_text}
-use Rattle.cqa_session.specs.State.{State}
-use Rattle.cqa_session.specs.Runs.{Run, Closes, has_refusal}
+use Rattle.session_state.specs.State.{State}
+use Rattle.command_shell.specs.Runs.{Run, Closes, has_refusal}
 use Rattle.text_law.specs.Again.{DumpRunsAgain, DumpAnswersAgain}
 use Rattle.text_law.proofs.Cut.{whole_cut}
 use Rattle.text_law.proofs.Scripts.{TakesAll, all_run, all_once, dump_cut, dump_statements, dump_taken}

@@ -17,8 +17,8 @@ use Rattle.csv_rows.specs.Dumps.{create_words, create_text, copy_text, insert_te
 use Rattle.reply_text.specs.declared.reply.Reply.{Reply}
 use Rattle.reply_text.specs.Texts.{is_refusal}
 use Rattle.table_blocks.specs.Tables.{table_named}
-use Rattle.cqa_session.specs.State.{State}
-use Rattle.cqa_session.specs.Runs.{Run, has_refusal}
+use Rattle.session_state.specs.State.{State}
+use Rattle.command_shell.specs.Runs.{Run, has_refusal}
 use Rattle.text_law.proofs.Cut.{IsCutInto, no_text, both_texts, plain_cut}
 use Rattle.text_law.proofs.Texts.{create_is_text, create_copies_not}
 use Rattle.text_law.proofs.Resolved.{Differ, last_free, last_found}

@@ -2,8 +2,8 @@
 use Rattle.std.specs.Prelude.{◌≡◌, ℕ, Bool, true, false, List, []}
 use Rattle.reply_text.specs.declared.reply.Reply.{Reply}
 use Rattle.csv_rows.specs.Dumps.{dump_text}
-use Rattle.cqa_session.specs.State.{State, IsState}
-use Rattle.cqa_session.specs.Runs.{RunsOver, has_refusal, Answers}
+use Rattle.session_state.specs.State.{State, IsState}
+use Rattle.command_shell.specs.Runs.{RunsOver, has_refusal, Answers}
 
 -- The script that `dump` answers in a state is run as an ended input, from another state. The machine may run it; and whatever it replies on the way,
 -- it refuses nothing, and the tables are those of the dumped state.

@@ -6,8 +6,8 @@ use Rattle.spj_syntax.specs.declared.tree.Statement.TheVariants.{Asking}
 use Rattle.spj_syntax.specs.declared.tree.Verb.TheVariants.{Prove}
 use Rattle.spj_syntax.specs.Texts.{HasStatement}
 use Rattle.reply_text.specs.declared.reply.Reply.TheVariants.{Certificate}
-use Rattle.cqa_session.specs.State.{State, IsState}
-use Rattle.cqa_session.specs.Machine.{Step}
+use Rattle.session_state.specs.State.{State, IsState}
+use Rattle.command_shell.specs.Machine.{Step}
 use Rattle.text_law.specs.Printed.{IsVerified}
 
 -- The law: where a valid state may reply a certificate to a `prove`, the certificate is verified.

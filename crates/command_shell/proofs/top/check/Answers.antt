@@ -1,8 +1,5 @@
-use Rattle.std.proofs.Common.{◌≡◌, ◌∙◌, Some, Err, subst, sym}
-use Rattle.std.specs.Io.KnownBytes.{IsAtEnd}
-use Rattle.cqa_io.specs.Causes.{Rose}
+use Rattle.std.proofs.Common.{◌∙◌, Some, subst, sym}
 use Rattle.command_shell.specs.declared.ending.Command.TheVariants.{Check}
-use Rattle.command_shell.specs.Parts.{ReadRow, VerdictRow}
 use Rattle.command_shell.specs.Top.{Ended, told}
 use Rattle.command_shell.proofs.Lines.{check_stopped}
 use Rattle.command_shell.proofs.top.check.Goals as goal

@@ -1,0 +1,6 @@
+pub mod Apart
+pub mod Asking
+mod Contesting
+mod Joining
+mod Ranging
+mod Uniting

@@ -1,0 +1,13 @@
+pub mod Sides
+pub mod Ask
+pub mod AskUnion
+pub mod Possible
+pub mod PossibleUnion
+pub mod Disputed
+pub mod Classify
+pub mod ClassifyUnion
+pub mod Plan
+pub mod Sql
+pub mod SqlUnion
+pub mod Range
+pub mod RangeOfJoin

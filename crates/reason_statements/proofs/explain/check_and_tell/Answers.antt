@@ -1,0 +1,46 @@
+use Rattle.std.proofs.Common.{◌≡◌, ◌∙◌, inl, refl, subst, IfErr, IfOk, None, Some}
+use Rattle.query_resolve.specs.Checks.{answer_fault}
+use Rattle.reason_statements.specs.Reasons.{IsReason, IsStopped}
+use Rattle.reason_statements.specs.Explain.{MayTell}
+use Rattle.session_state.proofs.Doing.{unrefused}
+use Rattle.reason_statements.proofs.explain.check_and_tell.Goals as goal
+
+pub tell-requires-clause-told : goal.tell-requires-clause-told
+tell-requires-clause-told c =
+    let bound = c.new-bound.result in
+    let found = c.reason_of-found.result in
+    subst (λ q. IfOk found (IsReason c.args.session.now.tables q c.args.row.now)) c.new-bound.ensures.query
+    (subst (λ db. IfOk found (IsReason db bound.query.now c.args.row.now)) (c.new-bound.ensures.db ∙ c.database.ensures.is) c.reason_of-found.ensures.told)
+
+pub tell-requires-clause-stopped : goal.tell-requires-clause-stopped
+tell-requires-clause-stopped c =
+    let bound = c.new-bound.result in
+    let found = c.reason_of-found.result in
+    let tables = c.args.session.now.tables in
+    let row = c.args.row.now in
+    subst (λ q. IfErr found (IsStopped tables q row c.args.session.now.budget)) c.new-bound.ensures.query
+    (subst (λ db. IfErr found (IsStopped db bound.query.now row c.args.session.now.budget)) (c.new-bound.ensures.db ∙ c.database.ensures.is)
+    (subst (λ budget. IfErr found (IsStopped bound.db.now bound.query.now row budget)) c.budget.ensures c.reason_of-found.ensures.stopped))
+
+pub returns-in-Err : goal.returns-in-Err
+returns-in-Err c =
+    let bound = c.new-bound.result in
+    let row = c.args.row.now in
+    let fault = Some c.in-Err.refusal in
+    inl (record {
+      refusal = c.in-Err.refusal;
+      first = subst (λ q. answer_fault c.args.session.now.tables q row ≡ fault) c.new-bound.ensures.query
+          (subst (λ db. answer_fault db bound.query.now row ≡ fault) (c.new-bound.ensures.db ∙ c.database.ensures.is) c.in-Err.ensures);
+      replies = refl;
+      keeps = refl;
+    })
+
+pub returns : goal.returns
+returns c =
+    let bound = c.new-bound.result in
+    let old = c.args.session.now in
+    let row = c.args.row.now in
+    let q = c.args.query.now in
+    let valid = subst (λ z. answer_fault old.tables z row ≡ None) c.new-bound.ensures.query
+    (subst (λ db. answer_fault db bound.query.now row ≡ None) (c.new-bound.ensures.db ∙ c.database.ensures.is) c.in_default.ensures) in
+    unrefused (answer_fault old.tables q row) old c.tell.new.session (MayTell old q row) c.tell.result valid c.tell.ensures

@@ -1,0 +1,15 @@
+pub mod State
+pub mod Replying
+pub mod Spent
+pub mod Untold
+pub mod Create
+pub mod Alter
+pub mod Insert
+pub mod Delete
+pub mod Prefer
+pub mod Copy
+pub mod SetConflicts
+pub mod ShowTables
+pub mod ShowConflicts
+pub mod Dump
+pub mod ShowLog
