@@ -24,7 +24,7 @@ use Rattle.row_cursor.proofs.Parting.{blocks-are, side_by_side}
 use Rattle.fo_plan.specs.Enough.{row_at_place}
 use Rattle.fo_plan.specs.FirstBlock.{IsBlockOfRow}
 use Rattle.table_blocks.proofs.Spanning.{sorted-part}
-use Rattle.fo_plan.proofs.Parted.{row_in}
+use Rattle.row_cursor.proofs.BlockLists.{row_in}
 
 sorted-back : {A : Type 0} (cmp : A → A → Ordering) (xs ys : List A) → IsStrictlySortedBy cmp (xs ++ ys) → IsStrictlySortedBy cmp ys
 unfolding IsStrictlySortedBy

@@ -25,7 +25,7 @@ use Rattle.fo_plan.specs.Enough.{IsEnough, row_at_place, IsFirstOfBlock, IsFirst
 use Rattle.fo_plan.specs.FirstBlock.{IsBlockOfRow, IsFirstWith}
 use Rattle.fo_plan.specs.Holding.{PlanHoldsWith}
 use Rattle.fo_plan.specs.declared.enough.Blocks.{Blocks}
-use Rattle.fo_plan.proofs.Parted.{row_in, whole-block}
+use Rattle.row_cursor.proofs.BlockLists.{row_in, whole-block}
 use Rattle.fo_plan.proofs.Passing.{first-place, at-some}
 use Rattle.fo_plan.proofs.BlockOf.{block-rows, before-are, comes-first, parted}
 

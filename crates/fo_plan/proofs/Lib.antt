@@ -2,7 +2,6 @@ mod Looks
 mod Chained
 mod LinkLists
 mod Spanned
-mod Parted
 mod BlockOf
 mod Regrouped
 mod Passing

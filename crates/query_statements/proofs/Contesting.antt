@@ -1,32 +1,32 @@
 -- Of one row of each block, those of blocks of two or more rows are those whose blocks have another row.
 use Rattle.std.proofs.Common.{◌≡◌, inl, inr, ℕ, ◌&&◌, Bool, true, false, not, cond, if◌then◌else◌, List, [], ◌∷◌, get_or, Contains, refl, sym, ◌∙◌, ap, subst}
-use Rattle.std.proofs.lemmas.Bool.{and_parts, and_from, cases_order, not_from_false, false_from_ne_true}
+use Rattle.std.proofs.lemmas.Bool.{and_parts, and_from, not_from_false, false_from_ne_true}
 use Rattle.std.proofs.lemmas.List.{get_or_default}
 use Rattle.std.proofs.lemmas.List.Folds.{Any-from_list_any, list_any_at}
 use Rattle.cqa_value.specs.declared.value.Value.{Value}
 use Rattle.cqa_value.specs.Values.{row_eq, row_decides}
-use Rattle.cqa_value.proofs.Words.{clash_not, Contains-flat_map, mem-head, mem-tail, mem-nil, mem-cases}
+use Rattle.cqa_value.proofs.Words.{clash_not, mem-head, mem-tail, mem-nil, mem-cases}
 use Rattle.cqa_model.specs.declared.aggregate.End.{End}
 use Rattle.cqa_model.specs.declared.aggregate.Goal.{Goal}
 use Rattle.cqa_model.specs.declared.query.RowId.{RowId}
 use Rattle.cqa_model.specs.Database.{Table, key_of}
-use Rattle.cqa_model.specs.Repairs.{SharesKey}
 use Rattle.cqa_model.proofs.BlockOrder.{shares-from_key, key-from_shares}
-use Rattle.cqa_model.proofs.Repairs.{shares-sym}
 use Rattle.table_blocks.specs.declared.test.ColumnTest.{ColumnTest}
 use Rattle.table_blocks.specs.Tables.{rows_at, key_at, rows_in, names_in}
 use Rattle.repair_back.specs.Results.{is_of_block, is_contested, contested_of}
 use Rattle.range_ask.specs.Ranges.{IsAttained}
 use Rattle.range_ask.specs.Picks.{ArePicked, IsInBlocks}
 use Rattle.range_ask.specs.Choosing.{wide_names}
-use Rattle.range_ask.proofs.Picked.{all_rows, Fresh, fresh-left, fresh-right, sorted-fresh, in_some, picks_are_repairs}
+use Rattle.range_ask.specs.Walking.{rows_of_blocks}
+use Rattle.range_ask.proofs.Picked.{Fresh, fresh-left, fresh-right, sorted-fresh, picks_are_repairs}
 use Rattle.row_cursor.specs.Conflicts.{is_conflict}
+use Rattle.row_cursor.proofs.BlockLists.{row_in, whole-block}
 
-in_fresh : (bs : List (List (List Value))) (b : List (List Value)) → Fresh (all_rows bs) → Contains bs b → Fresh b
+in_fresh : (bs : List (List (List Value))) (b : List (List Value)) → Fresh (rows_of_blocks bs) → Contains bs b → Fresh b
 in_fresh [] b f m = absurd (mem-nil b m)
 in_fresh (c ∷ bs) b f m = elim (mem-cases b c bs m) [
-  | inl e ↦ subst Fresh e (fresh-left c (all_rows bs) f)
-  | inr k ↦ in_fresh bs b (fresh-right c (all_rows bs) f) k
+  | inl e ↦ subst Fresh e (fresh-left c (rows_of_blocks bs) f)
+  | inr k ↦ in_fresh bs b (fresh-right c (rows_of_blocks bs) f) k
 ]
 
 module _ (db : List Table) (table : ℕ) (blocks : List (List (List Value))) (parted : IsInBlocks db table blocks) where
@@ -36,35 +36,10 @@ module _ (db : List Table) (table : ℕ) (blocks : List (List (List Value))) (pa
   abbrev rows : List (List Value)
   rows = rows_at db table
 
-  stored : (b : List (List Value)) → Contains blocks b → (y : List Value) → Contains b y → Contains rows y
-  stored b m y n = subst (λ rs. Contains rs y) parted.blocks_are.joined (Contains-flat_map (λ (c : List (List Value)). c) blocks b y m n)
-
-  -- a row that shares a row's key is of its block
-  same-block : (b : List (List Value)) → Contains blocks b → (x y : List Value) → Contains b x → Contains rows y → SharesKey key x y → Contains b y
-  same-block b (i, li, ei) x y mx my s = go (in_some blocks y (subst (λ rs. Contains rs y) (sym parted.blocks_are.joined) my))
-    where
-      at-b : get_or blocks i [] ≡ b
-      at-b = get_or_default blocks i [] b li ∙ ei
-
-      go : ((c : List (List Value)) × Contains blocks c × Contains c y) → Contains b y
-      go (c, (j, lj, ej), n) = elim (cases_order i j) [
-        | inl e ↦ subst (λ d. Contains d y) (sym at-c ∙ (ap (λ k. get_or blocks k []) (sym e) ∙ at-b)) n
-        | inr o ↦ elim o [
-          | inl l ↦ absurd (parted.blocks_are.apart i j l lj x y (subst (λ d. Contains d x) (sym at-b) mx) (subst (λ d. Contains d y) (sym at-c) n) s)
-          | inr l ↦ absurd (parted.blocks_are.apart j i l li y x (subst (λ d. Contains d y) (sym at-c) n) (subst (λ d. Contains d x) (sym at-b) mx) (shares-sym key x y s))
-        ]
-      ]
-        where
-          at-c : get_or blocks j [] ≡ c
-          at-c = get_or_default blocks j [] c lj ∙ ej
-
-  rival : List Value → List Value → Bool
-  rival x y = is_of_block key x y && not (row_eq x y)
-
   -- a row of its block that is another one
   contests : (b : List (List Value)) → Contains blocks b → (x y : List Value) → Contains b x → Contains b y → (x ≡ y → ⊥) → is_contested key rows x ≡ true
   contests b m x y mx my ne =
-      let k = stored b m y my in
+      let k = row_in key rows blocks parted.blocks_are b y m my in
       let s = parted.blocks_are.alike b m x y mx my in
       list_any_at (λ z. is_of_block key x z && not (row_eq x z)) rows k.0 [] k.1
       (subst (λ z. (is_of_block key x z && not (row_eq x z)) ≡ true) (sym (get_or_default rows k.0 [] y k.1 ∙ k.2))
@@ -83,7 +58,7 @@ module _ (db : List Table) (table : ℕ) (blocks : List (List (List Value))) (pa
           let z = a.1 in
           let t = and_parts (is_of_block key x z) (not (row_eq x z)) a.4 in
           let s = shares-from_key key x z ((row_decides (key_of key x) (key_of key z)).0 t.0) in
-          let n = same-block (y ∷ []) m x z mx (a.0, a.2, a.3) s in
+          let n = whole-block key rows blocks parted.blocks_are (y ∷ []) m x z mx (a.0, a.2, a.3) s in
           clash_not (row_eq x z) t.1 ((row_decides x z).1 (only x mx ∙ sym (only z n)))
   contested-is (y ∷ z ∷ b) m x mx = elim (mem-cases x y (z ∷ b) mx) [
     | inl e ↦ contests (y ∷ z ∷ b) m x z mx (mem-tail z y (z ∷ b) (mem-head z b)) (λ same. fresh.0 (subst (Contains (z ∷ b)) (sym (e ∙ same)) (mem-head z b)))

@@ -1,10 +1,10 @@
 -- The repairs of a table are the lists with one row of each block.
-use Rattle.std.proofs.Common.{◌≡◌, inl, inr, ℕ, suc, List, [], ◌∷◌, ◌++◌, get_or, flat_map, Contains, Less, refl, sym, ◌∙◌, ap, subst, arith, suc-le-suc}
+use Rattle.std.proofs.Common.{◌≡◌, inl, inr, ℕ, suc, List, [], ◌∷◌, ◌++◌, get_or, Contains, Less, refl, sym, ◌∙◌, ap, subst, arith, suc-le-suc}
 use Rattle.std.specs.List.Sorted.{IsStrictlySortedBy}
 use Rattle.std.proofs.lemmas.List.{get_or_default}
 use Rattle.std.proofs.lemmas.List.Elements.{Contains-get_or, Contains-append_left, Contains-append_right, Contains-append_cases}
 use Rattle.cqa_value.specs.declared.value.Value.{Value}
-use Rattle.cqa_value.proofs.Words.{member_by_recursion}
+use Rattle.cqa_value.proofs.Words.{Contains-from_flat_map, member_by_recursion, not_less}
 use Rattle.cqa_model.specs.Database.{block_cmp}
 use Rattle.cqa_model.specs.Repairs.{SharesKey, IsSublist, HasOne, IsTableRepair}
 use Rattle.cqa_model.specs.Blocks.{AreBlocks}
@@ -12,18 +12,8 @@ use Rattle.cqa_model.proofs.Classic.{mem-head, mem-tail, mem-nil, mem-cases}
 use Rattle.cqa_model.proofs.Repairs.{sublist-stored, sublist-drop, shares-sym}
 use Rattle.cqa_model.proofs.BlockOrder.{block_total}
 use Rattle.range_ask.specs.Picks.{ArePicked}
+use Rattle.range_ask.specs.Walking.{rows_of_blocks}
 use Rattle.range_ask.specs.Laws.{PicksAreRepairs}
-use Rattle.cqa_value.proofs.Words.{not_less}
-
-abbrev pub all_rows : List (List (List Value)) → List (List Value)
-all_rows bs = flat_map (λ b. b) bs
-
-pub in_some : (bs : List (List (List Value))) (x : List Value) → Contains (all_rows bs) x → (b : List (List Value)) × Contains bs b × Contains b x
-in_some [] x m = absurd (mem-nil x m)
-in_some (c ∷ bs) x m = elim (Contains-append_cases c (all_rows bs) x m) [
-  | inl n ↦ (c, mem-head c bs, n)
-  | inr l ↦ (let s = in_some bs x l in (s.0, mem-tail s.0 c bs s.1, s.2))
-]
 
 -- no row stands twice
 abbrev pub Fresh : List (List Value) → Type 0
@@ -79,7 +69,7 @@ one-member (x ∷ y ∷ k) r f m h =
     absurd (f.0 (subst (Contains (y ∷ k)) (ey ∙ sym ex) (mem-head y k)))
 
 module _ (key : List ℕ) where
-  tail-blocks : (b : List (List Value)) (bs : List (List (List Value))) (rows : List (List Value)) → AreBlocks key rows (b ∷ bs) → AreBlocks key (all_rows bs) bs
+  tail-blocks : (b : List (List Value)) (bs : List (List (List Value))) (rows : List (List Value)) → AreBlocks key rows (b ∷ bs) → AreBlocks key (rows_of_blocks bs) bs
   tail-blocks b bs rows h = record {
     joined = refl;
     some = λ c m. h.some c (mem-tail c b bs m);
@@ -89,37 +79,37 @@ module _ (key : List ℕ) where
 
   -- a row of the first block shares its key with none behind it
   head-apart : (b : List (List Value)) (bs : List (List (List Value))) (rows : List (List Value)) → AreBlocks key rows (b ∷ bs) → (x y : List Value) →
-      Contains b x → Contains (all_rows bs) y → SharesKey key x y → ⊥
-  head-apart b bs rows h x y mx my s = go (in_some bs y my)
+      Contains b x → Contains (rows_of_blocks bs) y → SharesKey key x y → ⊥
+  head-apart b bs rows h x y mx my s = go (Contains-from_flat_map (λ c. c) bs y my)
     where
       go : ((c : List (List Value)) × Contains bs c × Contains c y) → ⊥
       go (c, (k, l, e), n) =
           let ck : get_or bs k [] ≡ c = get_or_default bs k [] c l ∙ e in
           h.apart 0 (suc k) (omega arith) (suc-le-suc l) x y mx (subst (λ d. Contains d y) (sym ck) n) s
 
-  picked-sublist : (bs : List (List (List Value))) (xs : List (List Value)) → ArePicked bs xs → IsSublist xs (all_rows bs)
+  picked-sublist : (bs : List (List (List Value))) (xs : List (List Value)) → ArePicked bs xs → IsSublist xs (rows_of_blocks bs)
   picked-sublist [] [] p = tt
   picked-sublist [] (x ∷ xs) p = absurd p
   picked-sublist (b ∷ bs) [] p = absurd p
-  picked-sublist (b ∷ bs) (x ∷ xs) p = sublist-in b (all_rows bs) x xs p.0 (picked-sublist bs xs p.1)
+  picked-sublist (b ∷ bs) (x ∷ xs) p = sublist-in b (rows_of_blocks bs) x xs p.0 (picked-sublist bs xs p.1)
 
-  picked-one : (bs : List (List (List Value))) (rows xs : List (List Value)) → AreBlocks key rows bs → ArePicked bs xs → (x : List Value) → Contains (all_rows bs) x → HasOne key xs x
+  picked-one : (bs : List (List (List Value))) (rows xs : List (List Value)) → AreBlocks key rows bs → ArePicked bs xs → (x : List Value) → Contains (rows_of_blocks bs) x → HasOne key xs x
   picked-one [] rows xs h p x m = absurd (mem-nil x m)
   picked-one (b ∷ bs) rows [] h p x m = absurd p
-  picked-one (b ∷ bs) rows (z ∷ zs) h p x m = elim (Contains-append_cases b (all_rows bs) x m) [
+  picked-one (b ∷ bs) rows (z ∷ zs) h p x m = elim (Contains-append_cases b (rows_of_blocks bs) x m) [
     | inl n ↦ record {
       row = z;
       is_kept = mem-head z zs;
       shares = h.alike b (mem-head b bs) x z n p.0;
       only = λ y my s. elim (mem-cases y z zs my) [
         | inl e ↦ sym e
-        | inr k ↦ absurd (head-apart b bs rows h x y n (sublist-stored zs (all_rows bs) (picked-sublist bs zs p.1) y k) s)
+        | inr k ↦ absurd (head-apart b bs rows h x y n (sublist-stored zs (rows_of_blocks bs) (picked-sublist bs zs p.1) y k) s)
       ];
     }
-    | inr n ↦ behind n (picked-one bs (all_rows bs) zs (tail-blocks b bs rows h) p.1 x n)
+    | inr n ↦ behind n (picked-one bs (rows_of_blocks bs) zs (tail-blocks b bs rows h) p.1 x n)
   ]
     where
-      behind : Contains (all_rows bs) x → HasOne key zs x → HasOne key (z ∷ zs) x
+      behind : Contains (rows_of_blocks bs) x → HasOne key zs x → HasOne key (z ∷ zs) x
       behind n o = record {
         row = o.row;
         is_kept = mem-tail o.row z zs o.is_kept;
@@ -133,10 +123,10 @@ module _ (key : List ℕ) where
   pub repair-of_picks : (rows : List (List Value)) (bs : List (List (List Value))) (xs : List (List Value)) → AreBlocks key rows bs → ArePicked bs xs → IsTableRepair key rows xs
   repair-of_picks rows bs xs h p = subst (λ rs. IsTableRepair key rs xs) h.joined (record { stored = picked-sublist bs xs p; one = picked-one bs rows xs h p })
 
-  picks-of : (bs : List (List (List Value))) (rows kept : List (List Value)) → AreBlocks key rows bs → Fresh (all_rows bs) → IsTableRepair key (all_rows bs) kept → ArePicked bs kept
+  picks-of : (bs : List (List (List Value))) (rows kept : List (List Value)) → AreBlocks key rows bs → Fresh (rows_of_blocks bs) → IsTableRepair key (rows_of_blocks bs) kept → ArePicked bs kept
   picks-of [] rows [] h f r = tt
   picks-of [] rows (x ∷ kept) h f r = absurd r.stored
-  picks-of (b ∷ bs) rows kept h f r = go (λ ks k. picks-of bs (all_rows bs) ks (tail-blocks b bs rows h) (fresh-right b (all_rows bs) f) k) (sublist-split b (all_rows bs) kept r.stored)
+  picks-of (b ∷ bs) rows kept h f r = go (λ ks k. picks-of bs (rows_of_blocks bs) ks (tail-blocks b bs rows h) (fresh-right b (rows_of_blocks bs) f) k) (sublist-split b (rows_of_blocks bs) kept r.stored)
     where
       x : List Value
       x = get_or b 0 []
@@ -145,10 +135,10 @@ module _ (key : List ℕ) where
       mx = Contains-get_or b 0 [] (h.some b (mem-head b bs))
 
       o : HasOne key kept x
-      o = r.one x (Contains-append_left b (all_rows bs) x mx)
+      o = r.one x (Contains-append_left b (rows_of_blocks bs) x mx)
 
-      go : ((ks : List (List Value)) → IsTableRepair key (all_rows bs) ks → ArePicked bs ks) →
-          ((k : List (List Value)) × (ks : List (List Value)) × (kept ≡ k ++ ks) × IsSublist k b × IsSublist ks (all_rows bs)) → ArePicked (b ∷ bs) kept
+      go : ((ks : List (List Value)) → IsTableRepair key (rows_of_blocks bs) ks → ArePicked bs ks) →
+          ((k : List (List Value)) × (ks : List (List Value)) × (kept ≡ k ++ ks) × IsSublist k b × IsSublist ks (rows_of_blocks bs)) → ArePicked (b ∷ bs) kept
       go ih (k, ks, e, sk, sks) = subst (ArePicked (b ∷ bs)) (sym (e ∙ ap (λ z. z ++ ks) alone)) (sublist-stored k b sk o.row there, ih ks rest)
         where
           kept-left : (y : List Value) → Contains k y → Contains kept y
@@ -160,14 +150,14 @@ module _ (key : List ℕ) where
           there : Contains k o.row
           there = elim (Contains-append_cases k ks o.row (subst (λ z. Contains z o.row) e o.is_kept)) [
             | inl m ↦ m
-            | inr m ↦ absurd (head-apart b bs rows h x o.row mx (sublist-stored ks (all_rows bs) sks o.row m) o.shares)
+            | inr m ↦ absurd (head-apart b bs rows h x o.row mx (sublist-stored ks (rows_of_blocks bs) sks o.row m) o.shares)
           ]
 
           alone : k ≡ o.row ∷ []
-          alone = one-member k o.row (sublist-fresh k b sk (fresh-left b (all_rows bs) f)) there
+          alone = one-member k o.row (sublist-fresh k b sk (fresh-left b (rows_of_blocks bs) f)) there
               (λ y m. o.only y (kept-left y m) (h.alike b (mem-head b bs) x y mx (sublist-stored k b sk y m)))
 
-          behind : (y : List Value) → Contains (all_rows bs) y → HasOne key kept y → HasOne key ks y
+          behind : (y : List Value) → Contains (rows_of_blocks bs) y → HasOne key kept y → HasOne key ks y
           behind y my p = record {
             row = p.row;
             is_kept = elim (Contains-append_cases k ks p.row (subst (λ z. Contains z p.row) e p.is_kept)) [
@@ -178,11 +168,11 @@ module _ (key : List ℕ) where
             only = λ z mz s. p.only z (kept-right z mz) s;
           }
 
-          rest : IsTableRepair key (all_rows bs) ks
-          rest = record { stored = sks; one = λ y my. behind y my (r.one y (Contains-append_right b (all_rows bs) y my)) }
+          rest : IsTableRepair key (rows_of_blocks bs) ks
+          rest = record { stored = sks; one = λ y my. behind y my (r.one y (Contains-append_right b (rows_of_blocks bs) y my)) }
 
 pub picks_are_repairs : PicksAreRepairs
 picks_are_repairs key rows blocks xs h s = (
-  λ r. picks-of key blocks rows xs h (sorted-fresh key (all_rows blocks) (subst (IsStrictlySortedBy (block_cmp key)) (sym h.joined) s)) (subst (λ rs. IsTableRepair key rs xs) (sym h.joined) r),
+  λ r. picks-of key blocks rows xs h (sorted-fresh key (rows_of_blocks blocks) (subst (IsStrictlySortedBy (block_cmp key)) (sym h.joined) s)) (subst (λ rs. IsTableRepair key rs xs) (sym h.joined) r),
   λ p. repair-of_picks key rows blocks xs h p,
 )

@@ -6,23 +6,17 @@ use Rattle.std.proofs.lemmas.List.{append-nil, get_or_default, get_or_append_lef
 use Rattle.std.proofs.lemmas.List.Elements.{filter-append, Contains-append_cases, Contains-append_left, Contains-append_right}
 use Rattle.cqa_value.specs.declared.value.Value.{Value}
 use Rattle.cqa_value.specs.Values.{row_eq, row_decides}
+use Rattle.cqa_value.proofs.Words.{Contains-from_flat_map}
 use Rattle.cqa_model.specs.Database.{key_of}
 use Rattle.cqa_model.specs.Repairs.{SharesKey}
 use Rattle.cqa_model.specs.Blocks.{AreBlocks}
 use Rattle.cqa_model.proofs.BlockOrder.{shares-from_key, key-from_shares}
 use Rattle.cqa_model.proofs.Repairs.{shares-sym}
-use Rattle.cqa_model.proofs.Classic.{mem-head, mem-tail, mem-nil}
+use Rattle.cqa_model.proofs.Classic.{mem-head, mem-tail}
 
 -- the rows of blocks, one behind the other
 abbrev pub rows_joined : List (List (List Value)) → List (List Value)
 rows_joined bs = flat_map (λ b. b) bs
-
-pub in_member : {A : Type 0} (bs : List (List A)) (x : A) → Contains (flat_map (λ b. b) bs) x → (b : List A) × Contains bs b × Contains b x
-in_member [] x m = absurd (mem-nil x m)
-in_member (c ∷ bs) x m = elim (Contains-append_cases c (flat_map (λ b. b) bs) x m) [
-  | inl n ↦ (c, mem-head c bs, n)
-  | inr l ↦ (let s = in_member bs x l in (s.0, mem-tail s.0 c bs s.1, s.2))
-]
 
 filter_all : {A : Type 0} (p : A → Bool) (xs : List A) → ((y : A) → Contains xs y → p y ≡ true) → filter p xs ≡ xs
 filter_all p [] h = refl
@@ -60,7 +54,7 @@ module _ (key : List ℕ) (rows : List (List Value)) (before : List (List (List 
   seam = get_or-append_seam before b behind []
 
   off_before : (x y : List Value) → Contains b x → Contains (rows_joined before) y → SharesKey key x y → ⊥
-  off_before x y mx my s = go (in_member before y my)
+  off_before x y mx my s = go (Contains-from_flat_map (λ c. c) before y my)
     where
       go : (c : List (List Value)) × Contains before c × Contains c y → ⊥
       go (c, (i, li, ei), n) =
@@ -69,7 +63,7 @@ module _ (key : List ℕ) (rows : List (List Value)) (before : List (List (List 
           h.apart i (length before) li (omega (arith, long)) y x (subst (λ d. Contains d y) (sym at) n) (subst (λ d. Contains d x) (sym seam) mx) (shares-sym key x y s)
 
   off_behind : (x y : List Value) → Contains b x → Contains (rows_joined behind) y → SharesKey key x y → ⊥
-  off_behind x y mx my s = go (in_member behind y my)
+  off_behind x y mx my s = go (Contains-from_flat_map (λ c. c) behind y my)
     where
       go : (c : List (List Value)) × Contains behind c × Contains c y → ⊥
       go (c, (i, li, ei), n) =

@@ -9,7 +9,7 @@ use Rattle.std.proofs.lemmas.Map.Keys.{Less-from_sorted}
 use Rattle.std.proofs.lemmas.Option.{slice_get_cases}
 use Rattle.cqa_value.specs.declared.value.Value.{Value}
 use Rattle.cqa_value.specs.Values.{row_eq}
-use Rattle.cqa_value.proofs.Words.{Contains-flat_map, not_less}
+use Rattle.cqa_value.proofs.Words.{Contains-from_flat_map, all_zip_right, not_less}
 use Rattle.cqa_model.specs.declared.query.Query.{Query}
 use Rattle.cqa_model.specs.Database.{Table, IsDatabase, block_cmp, key_of, keys_of, stored}
 use Rattle.cqa_model.specs.Blocks.{AreBlocks}
@@ -29,9 +29,10 @@ use Rattle.plan_rows.specs.Links.{RowHolds}
 use Rattle.fo_plan.specs.FirstBlock.{IsFirstWith}
 use Rattle.rewrite_text.specs.Made.{IsMade}
 use Rattle.rewrite_text.specs.Laws.{MadeExists, MadeOnce, MadePasses}
-use Rattle.rewrite_text.proofs.Blocks.{in_member, same_key, stored as block_stored, block_is, in_block, in_shares, has_some_row, blocks_once}
+use Rattle.rewrite_text.proofs.Blocks.{same_key, stored as block_stored, block_is, in_block, in_shares, has_some_row, blocks_once}
 use Rattle.row_cursor.specs.Blocks.{blocks_of}
 use Rattle.row_cursor.proofs.Parting.{side_by_side, blocks-are}
+use Rattle.row_cursor.proofs.BlockLists.{row_in, block_of as block_with}
 
 abbrev node : ℕ → List (List Value) → Node
 node F rows = record { atom = F; rows = rows }
@@ -72,15 +73,6 @@ choose_zip R (x ∷ xs) h =
     let y = h x (mem-head x xs) in
     let ys = choose_zip R xs (λ z m. h z (mem-tail z x xs m)) in
     (y.0 ∷ ys.0, (y.1, ys.1))
-
-zip_back : {A B : Type 0} (R : A → B → Type 0) (xs : List A) (ys : List B) → AllZip R xs ys → (y : B) → Contains ys y → (x : A) × Contains xs x × R x y
-zip_back R [] [] h y m = absurd (mem-nil y m)
-zip_back R [] (b ∷ ys) h y m = absurd h
-zip_back R (a ∷ xs) [] h y m = absurd h
-zip_back R (a ∷ xs) (b ∷ ys) h y m = elim (mem-cases y b ys m) [
-  | inl e ↦ (a, mem-head a xs, subst (λ z. R a z) e h.0)
-  | inr n ↦ let r = zip_back R xs ys h.1 y n in (r.0, mem-tail r.0 a xs r.1, r.2)
-]
 
 pub zip_once : {A B : Type 0} (R : A → B → Type 0) → ((x : A) (y z : B) → R x y → R x z → y ≡ z) → (xs : List A) (ys zs : List B) → AllZip R xs ys → AllZip R xs zs → ys ≡ zs
 zip_once R f [] [] [] h k = refl
@@ -132,9 +124,9 @@ module _ (q : Query) (tables : List (List (List Value))) (row : List Value) wher
         let key = atom_key q F in
         let rows = rows_of q tables F in
         let are : AreBlocks key rows (blocks_of key rows) = blocks-are key rows (side_by_side key rows (sorted F (inside F (mem-head F plan)))) in
-        let found = in_member (blocks_of key rows) x (subst (λ xs. Contains xs x) (sym are.joined) mx) in
+        let found = block_with key rows (blocks_of key rows) are x mx in
         let good = first_good (Holds taken F plan) (dec_holds taken F plan) (blocks_of key rows) found.0 found.1
-        (λ y my. h y (subst (λ xs. Contains xs y) are.joined (Contains-flat_map (λ b. b) (blocks_of key rows) found.0 y found.1 my)) (are.alike found.0 found.1 x y found.2 my)) in
+        (λ y my. h y (row_in key rows (blocks_of key rows) are found.0 y found.1 my) (are.alike found.0 found.1 x y found.2 my)) in
         let parts = choose_zip (λ y part. IsMade q tables row (placed F y ∷ taken) plan part) good.1 (λ y m. exists plan (placed F y ∷ taken) (λ G n. inside G (mem-tail G F plan n)) (good.4 y m).1) in (
           node F good.1 ∷ listing parts.0,
           (good.1, parts.0, refl {a = node F good.1 ∷ listing parts.0}, record { before = good.0; behind = good.2; blocks = subst (AreBlocks key rows) good.3 are; all = good.4; none = good.5 }, parts.1),
@@ -170,8 +162,8 @@ module _ (q : Query) (tables : List (List (List Value))) (row : List Value) wher
   are_in (F ∷ plan) taken nodes (rows, parts, is, first, under) n m = elim (mem-cases n (node F rows) (listing parts) (subst (λ z. Contains z n) is m)) [
     | inl e ↦ subst IsIn e (first.before, first.behind, first.blocks)
     | inr k ↦
-        let part = in_member parts n k in
-        let x = zip_back (λ x part. IsMade q tables row (placed F x ∷ taken) plan part) rows parts under part.0 part.1 in
+        let part = Contains-from_flat_map (λ p. p) parts n k in
+        let x = all_zip_right (λ x part. IsMade q tables row (placed F x ∷ taken) plan part) rows parts part.0 under part.1 in
         are_in plan (placed F x.0 ∷ taken) part.0 x.2 n part.2
   ]
 

@@ -1,13 +1,12 @@
 -- The nodes of a tree: blocks of the query's tables.
 use Rattle.std.proofs.Common.{inl, inr, ℕ, List, [], ◌∷◌, Contains, subst}
 use Rattle.cqa_value.specs.declared.value.Value.{Value}
-use Rattle.cqa_value.proofs.Words.{mem-head, mem-tail, mem-nil, mem-cases, all_zip_right}
+use Rattle.cqa_value.proofs.Words.{Contains-from_flat_map, mem-head, mem-tail, mem-nil, mem-cases, all_zip_right}
 use Rattle.cqa_model.specs.declared.query.Query.{Query}
 use Rattle.cqa_model.specs.Plan.{Placed}
 use Rattle.cqa_model.specs.Query.{atom_key}
 use Rattle.block_tree.specs.declared.node.Node.{Node}
 use Rattle.block_tree.specs.Trees.{IsTree, IsBlockOf, listing}
-use Rattle.rewrite_text.proofs.Blocks.{in_member}
 
 -- a block of an atom of an order
 abbrev pub IsNodeOf : Query → List ℕ → Node → Type 0
@@ -18,7 +17,7 @@ in_tree q row [] taken nodes tree n m = absurd (mem-nil n (subst (λ z. Contains
 in_tree q row (F ∷ order) taken nodes (rows, parts, is, block, fit, under) n m = elim (mem-cases n (record { atom = F; rows = rows }) (listing parts) (subst (λ z. Contains z n) is m)) [
   | inl e ↦ subst (IsNodeOf q (F ∷ order)) e (mem-head F order, block)
   | inr k ↦
-      let part = in_member parts n k in
+      let part = Contains-from_flat_map (λ p. p) parts n k in
       let x = all_zip_right (λ x part. IsTree q row (record { atom = F; row = x } ∷ taken) order part) rows parts part.0 under part.1 in
       let h = in_tree q row order (record { atom = F; row = x.0 } ∷ taken) part.0 x.2 n part.2 in
       (mem-tail n.atom F order h.0, h.1)
