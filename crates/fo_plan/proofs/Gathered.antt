@@ -12,6 +12,7 @@ use Rattle.cqa_model.specs.Query.{atom_at}
 use Rattle.cqa_model.specs.Plan.{Placed, PlanHolds, answer_at}
 use Rattle.cqa_model.proofs.Classic.{mem-head, mem-tail, mem-nil, mem-cases}
 use Rattle.cqa_model.proofs.Exactness.{map_is}
+use Rattle.join_access.specs.Deciding.{of_all}
 use Rattle.plan_rows.specs.Taking.{taken_value, AreAgreed}
 use Rattle.plan_rows.specs.Fitting.{Suits, GivesAt}
 use Rattle.plan_rows.specs.Left.{IsAnswerSettled}
@@ -19,7 +20,7 @@ use Rattle.plan_rows.specs.Links.{RowHolds}
 use Rattle.fo_plan.specs.Holding.{AllHold}
 use Rattle.fo_plan.specs.Giving.{AreAllAtoms, IsAnswerRow, PlanGives, BlockGives, IsAdded}
 use Rattle.plan_rows.proofs.Sharing.{value-taken}
-use Rattle.plan_rows.proofs.Suiting.{of_all, fits-of, suits-from, gives-from}
+use Rattle.plan_rows.proofs.Suiting.{fits-of, suits-from, gives-from}
 
 module _ (q : Query) (tables : List (List (List Value))) (taken : List Placed) (F : ℕ) (plan : List ℕ) where
   pub all-more : (x : List Value) → AreAllAtoms q taken (F ∷ plan) → AreAllAtoms q (record { atom = F; row = x } ∷ taken) plan

@@ -4,7 +4,7 @@ use native.Mathlib.Decide.{ℕ_discrete}
 use Rattle.std.proofs.lemmas.Bool.{cases_lt}
 use Rattle.std.proofs.lemmas.List.{get_or_past}
 use Rattle.std.specs.List.{All}
-use Rattle.std.proofs.lemmas.List.Elements.{Contains-append_left, Contains-append_right, Contains-append_cases}
+use Rattle.std.proofs.lemmas.List.Elements.{All-contains, Contains-append_left, Contains-append_right, Contains-append_cases}
 use Rattle.cqa_value.specs.declared.value.Value.{Value}
 use Rattle.cqa_value.specs.Values.{nothing}
 use Rattle.cqa_value.proofs.Words.{mem-nil}
@@ -21,11 +21,11 @@ use Rattle.cqa_model.proofs.Classic.{mem-head, mem-cases, dec_some}
 use Rattle.cqa_model.proofs.Columns.{class-linked, linked-class}
 use Rattle.cqa_model.proofs.Views.{linked-self, linked-sym}
 use Rattle.table_blocks.proofs.Binding.{in-range, past-atoms}
+use Rattle.join_access.specs.Deciding.{of_all}
 use Rattle.plan_rows.specs.declared.joined.JoinedColumn.{JoinedColumn}
 use Rattle.plan_rows.specs.declared.joined.JoinedColumns.{JoinedColumns}
 use Rattle.plan_rows.specs.Joining.{LeavesOut, AreJoinedFirst, AreJoinedIn, AgreesAt, AgreesInJoined, joined_in}
 use Rattle.plan_rows.specs.Fitting.{HaveSameFirst, AgreesInFirst}
-use Rattle.plan_rows.proofs.Suiting.{all_of, of_all}
 
 -- a column that no condition joins is linked to itself alone
 alone-linked : (ks : List Cond) (c d : ColRef) → All (LeavesOut c) ks → IsLinked ks c d → c ≡ d
@@ -33,8 +33,8 @@ alone-linked ks c d h (es, p) = go es p
   where
     go : (es : List ColRef) → IsChain ks c es d → c ≡ d
     go [] e = e
-    go (e ∷ es) (inl m, more) = absurd ((all_of (LeavesOut c) ks h (Join c e) m).0 refl)
-    go (e ∷ es) (inr m, more) = absurd ((all_of (LeavesOut c) ks h (Join e c) m).1 refl)
+    go (e ∷ es) (inl m, more) = absurd ((All-contains (LeavesOut c) ks (Join c e) h m).0 refl)
+    go (e ∷ es) (inr m, more) = absurd ((All-contains (LeavesOut c) ks (Join e c) h m).1 refl)
 
 -- the columns of an atom one by one
 module _ (q : Query) (v : Variables) (F : ℕ) where
@@ -104,7 +104,7 @@ module _ (q : Query) (v : Variables) (hv : AreVariables q v) (F G : ℕ) (own ot
       go (yes (a, m, e)) (yes (b, n, f)) =
           let one : a.class ≡ class_at v c = subst (λ z. a.class ≡ class_at v (record { atom = F; col = z })) e (hf.named a m) in
           let two : b.class ≡ class_at v d = subst (λ z. b.class ≡ class_at v (record { atom = G; col = z })) f (hg.named b n) in
-          let is : get_or x a.col nothing ≡ get_or y b.col nothing = all_of (AgreesAt a x y) others (all_of (λ a. All (AgreesAt a x y) others) own h a m) b n (one ∙ linked-class q v hv c d (in-range q F i l) (in-range q G j k) linked ∙ sym two) in
+          let is : get_or x a.col nothing ≡ get_or y b.col nothing = All-contains (AgreesAt a x y) others b (All-contains (λ a. All (AgreesAt a x y) others) own a h m) n (one ∙ linked-class q v hv c d (in-range q F i l) (in-range q G j k) linked ∙ sym two) in
           subst (λ z. get_or x z nothing ≡ get_or y j nothing) e (subst (λ z. get_or x a.col nothing ≡ get_or y z nothing) f is)
       go (yes s) (no f) =
           let e = hg.others j k (λ b n is. f (b, n, is)) c (linked-sym q c d linked) in

@@ -2,7 +2,7 @@
 use Rattle.std.proofs.Common.{◌≡◌, ℕ, ◌<◌, ◌↔◌, inl, inr, Bool, true, false, List, ◌∷◌, get_or, sym, ◌∙◌, subst, Contains}
 use Rattle.std.proofs.lemmas.Bool.{false≢true}
 use Rattle.std.specs.List.{All}
-use Rattle.std.proofs.lemmas.List.Elements.{All-contains, All-contains_itself, All-weaker}
+use Rattle.std.proofs.lemmas.List.Elements.{All-contains}
 use Rattle.cqa_value.specs.declared.value.Value.{Value}
 use Rattle.cqa_model.specs.declared.query.Query.{Query}
 use Rattle.cqa_model.specs.Query.{atom_at}
@@ -11,14 +11,9 @@ use Rattle.cqa_model.specs.Plan.{Placed, Fits, TestHolds}
 use Rattle.cqa_model.proofs.Classic.{mem-head, mem-tail, mem-cases}
 use Rattle.cqa_model.proofs.Views.{linked-self}
 use Rattle.cqa_value.specs.Values.{nothing}
+use Rattle.join_access.specs.Deciding.{of_all}
 use Rattle.plan_rows.specs.Taking.{AreAgreed}
 use Rattle.plan_rows.specs.Fitting.{AgreesInFirst, AgreesAll, Suits, GivesAt}
-
-pub all_of : {A : Type 0} (P : A → Type 0) (xs : List A) → All P xs → (x : A) → Contains xs x → P x
-all_of P xs h x m = All-contains P xs x h m
-
-pub of_all : {A : Type 0} (P : A → Type 0) (xs : List A) → ((x : A) → Contains xs x → P x) → All P xs
-of_all P xs h = All-weaker (λ x. Contains xs x) P h xs (All-contains_itself xs)
 
 module _ (q : Query) (F : ℕ) (x : List Value) (taken : List Placed) (t : Placed) (ts : List Placed) (e : taken ≡ t ∷ ts) where
   pub agrees-more : (a : Bool) → (a ≡ true) ↔ AgreesAll q F x ts → AgreesInFirst q F x t.atom t.row (atom_at q F).width → (a ≡ true) ↔ AgreesAll q F x taken
@@ -32,7 +27,7 @@ module _ (q : Query) (F : ℕ) (x : List Value) (taken : List Placed) (t : Place
 
 module _ (q : Query) (taken : List Placed) (F : ℕ) (x : List Value) where
   pub suits-of : AgreesAll q F x (record { atom = F; row = x } ∷ taken) → All (TestHolds F x) q.conds → Suits q taken F x
-  suits-of a t = record { agrees = a; tests = all_of (TestHolds F x) q.conds t }
+  suits-of a t = record { agrees = a; tests = λ k m. All-contains (TestHolds F x) q.conds k t m }
 
   pub tests-of : Suits q taken F x → All (TestHolds F x) q.conds
   tests-of s = of_all (TestHolds F x) q.conds s.tests

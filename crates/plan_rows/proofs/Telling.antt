@@ -4,13 +4,13 @@ use Rattle.std.specs.Borrow.{Bor}
 use Rattle.std.specs.Option.{option_copied}
 use Rattle.std.specs.List.{All}
 use Rattle.std.proofs.lemmas.Option.{get_or_from_slice_get}
-use Rattle.std.proofs.lemmas.List.Elements.{All-contains_itself, All-weaker}
 use Rattle.cqa_value.specs.declared.value.Value.{Value}
 use Rattle.cqa_value.specs.Values.{nothing}
 use Rattle.cqa_model.specs.declared.query.Query.{Query}
 use Rattle.cqa_model.specs.Query.{atom_at}
 use Rattle.cqa_model.specs.Plan.{Placed, TestHolds}
 use Rattle.cqa_model.proofs.Classic.{mem-head, mem-tail}
+use Rattle.join_access.specs.Deciding.{of_all}
 use Rattle.plan_rows.specs.Fitting.{AgreesInFirst, AgreesAll, Suits, GivesAt}
 use Rattle.plan_rows.specs.Knowing.{MayFit}
 
@@ -33,12 +33,9 @@ module _ (q : Query) (F : ℕ) (y : List Value) (taken : List Placed) (t : Place
 
 -- a row that may fit passes the tests, agrees with the rows taken, and has the values of the candidate, if there is one
 module _ (q : Query) (taken : List Placed) (F : ℕ) (y : List Value) where
-  of-all : {A : Type 0} (P : A → Type 0) (xs : List A) → ((x : A) → Contains xs x → P x) → All P xs
-  of-all P xs h = All-weaker (λ x. Contains xs x) P h xs (All-contains_itself xs)
-
   pub may-tests : (row : Option (List Value)) → MayFit q row taken F y → All (TestHolds F y) q.conds
-  may-tests None f = of-all (TestHolds F y) q.conds f.tests
-  may-tests (Some row) f = of-all (TestHolds F y) q.conds f.tests
+  may-tests None f = of_all (TestHolds F y) q.conds f.tests
+  may-tests (Some row) f = of_all (TestHolds F y) q.conds f.tests
 
   pub may-agree : (row : Option (List Value)) → MayFit q row taken F y → AgreesAll q F y taken
   may-agree None f t m = f.agrees t (mem-tail t (record { atom = F; row = y }) taken m)

@@ -1,12 +1,10 @@
 -- Groups with both ends are those of a range.
 use Rattle.std.proofs.Common.{◌≡◌, ℕ, ◌≤◌, true, List, [], ◌∷◌, length, map, Contains, Option, Some, None, refl, sym, ◌∙◌, ap, subst}
-use Rattle.std.specs.Prelude.{slice_index_or, All}
 use Rattle.std.specs.List.{AllZip}
 use Rattle.std.specs.List.Sorted.{IsStrictlySortedBy}
 use Rattle.std.specs.BTreeMap.{BTreeMap, get, keys, is_at}
 use Rattle.std.proofs.lemmas.Map.Entries.{btree_map_get_place, place_from_lookup}
 use Rattle.std.proofs.lemmas.Option.{slice_get-get_or}
-use Rattle.std.proofs.lemmas.List.Elements.{Contains-get_or}
 use Rattle.cqa_value.specs.declared.value.Value.{Value}
 use Rattle.cqa_value.specs.Values.{value_cmp, value_cmp_total, value_ties, value_decides}
 use Rattle.cqa_value.proofs.Words.{Contains-filter, Contains-map, Contains-slice_get, mem-nil}
@@ -21,12 +19,10 @@ use Rattle.range_ask.specs.Picks.{IsInBlocks}
 use Rattle.range_ask.specs.Walking.{rows_of_blocks}
 use Rattle.range_ask.specs.Groups.{tests_with, group_values, IsGroup, HasMember, AreGroups}
 use Rattle.range_ask.specs.Tallying.{low_end, IsKnownGroup, IsWhole, AreTallied, IsEnded}
+use Rattle.join_access.specs.Deciding.{of_all}
 use Rattle.join_access.proofs.Naming.{zip-right}
 use Rattle.range_ask.proofs.Membership.{is-in, of-in}
 use Rattle.range_ask.proofs.Grouped.{group-range}
-
-all-members : {A : Type 0} (P : A → Type 0) (xs : List A) → ((x : A) → Contains xs x → P x) → All P xs
-all-members P xs h k d l = h (slice_index_or xs k d) (Contains-get_or xs k d l)
 
 module _ (db : List Table) (table : ℕ) (goal : Goal) (tests : List ColumnTest) (col : ℕ) (blocks : List (List (List Value))) (parted : IsInBlocks db table blocks) (few : length blocks ≤ MOST_ROWS) (map_of : BTreeMap Value Tally)
     (ordered : IsStrictlySortedBy value_cmp (keys map_of)) (tallied : AreTallied goal tests col blocks map_of) where
@@ -72,9 +68,9 @@ module _ (db : List Table) (table : ℕ) (goal : Goal) (tests : List ColumnTest)
   pub groups-are : (groups : List Group) → AllZip Ended map_of.entries groups → AreGroups db table goal tests col groups
   groups-are groups h =
       let values = same-values map_of.entries groups h in record {
-        ranges = all-members (IsGroup db table goal tests col) groups (λ g m. let e = zip-right Ended map_of.entries groups h g m in group-is e.0 g e.1 e.2);
+        ranges = of_all (IsGroup db table goal tests col) groups (λ g m. let e = zip-right Ended map_of.entries groups h g m in group-is e.0 g e.1 e.2);
         ascend = subst (IsStrictlySortedBy value_cmp) (sym values) ordered;
         whole = λ row m t. subst (λ vs. Contains vs (cell row col)) (sym values)
             (known-value (cell row col) row (subst (λ rs. Contains rs row) (sym parted.blocks_are.joined) m) (is-in tests col (cell row col) row t refl) (get value_cmp map_of (cell row col)) refl (tallied (cell row col)).0);
-        members = all-members (λ g. HasMember db table tests col g.value) groups (λ g m. let e = zip-right Ended map_of.entries groups h g m in member-is e.0 g e.1 e.2);
+        members = of_all (λ g. HasMember db table tests col g.value) groups (λ g m. let e = zip-right Ended map_of.entries groups h g m in member-is e.0 g e.1 e.2);
       }
