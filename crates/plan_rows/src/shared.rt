@@ -10,16 +10,8 @@ ghost use Rattle.plan_rows.specs.Left.{IsTold, HasShared, AreSharedInParts};
 use crate::setting::Setting;
 use cqa_model::ColRef;
 use cqa_value::{Items, NoMemory};
+use join_access::are_linked;
 use table_blocks::Bound;
-
-/// Whether two columns of a query are of one variable.
-fn are_linked(bound: &Bound<'_>, a: ColRef, b: ColRef) -> bool
-    requires a { IsInRange bound.now.query.now.atoms a }
-    requires b { IsInRange bound.now.query.now.atoms b }
-    ensures { IsTrue result ↔ AreLinked bound.now.query.now a b }
-{
-    join_access::are_linked(bound.query, &bound.variables, a, b)
-}
 
 /// Whether an atom has a column that is linked to this one.
 pub(crate) fn is_linked_to(bound: &Bound<'_>, atom: u32, column: ColRef) -> bool
@@ -27,7 +19,7 @@ pub(crate) fn is_linked_to(bound: &Bound<'_>, atom: u32, column: ColRef) -> bool
     ensures { IsTrue result ↔ (i : ℕ) × (i < (atom_at bound.now.query.now atom).width) × AreLinked bound.now.query.now (record { atom = atom; col = i }) column }
 {
     for col in 0..bound.width_of(atom) {
-        if are_linked(bound, ColRef { atom, col }, column) {
+        if are_linked(bound.query, &bound.variables, ColRef { atom, col }, column) {
             return true;
         }
     }

@@ -1,7 +1,11 @@
 use Rattle.std.proofs.Common.{◌∙◌, ◌<◌, refl, sym, subst, below_more, arith}
 use Rattle.std.proofs.lemmas.Bool.{false≢true}
+use Rattle.key_closure.proofs.Naming.{untold}
 use Rattle.table_blocks.proofs.Binding.{in-range}
 use Rattle.plan_rows.proofs.shared.is_linked_to.Goals as goal
+
+pub are_linked-requires-clause-variables : goal.are_linked-requires-clause-variables
+are_linked-requires-clause-variables c = untold c.args.bound.now.query.now c.args.bound.now.variables c.args.bound.now.named
 
 pub are_linked-requires-clause-a : goal.are_linked-requires-clause-a
 are_linked-requires-clause-a c = in-range c.args.bound.now.query.now c.args.atom c.loop-col.col (subst (λ n. c.loop-col.col < n) c.width_of-col-end.ensures c.loop-col-test.true)
