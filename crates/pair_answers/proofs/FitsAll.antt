@@ -1,6 +1,7 @@
 -- Where the query has no answer columns and no tests, and an atom no two columns of one variable, each row of it fits.
 use Rattle.std.proofs.Common.{◌≡◌, ℕ, ◌<◌, List, ap, arith, slice_index_or}
 use native.Mathlib.Decide.{ℕ_discrete}
+use Rattle.std.proofs.lemmas.List.Elements.{All-weaker}
 use Rattle.cqa_value.specs.declared.value.Value.{Value}
 use Rattle.cqa_model.specs.declared.query.Cond.{Cond}
 use Rattle.cqa_model.specs.declared.query.Cond.TheVariants.{Join, Test}
@@ -10,7 +11,7 @@ use Rattle.cqa_model.specs.Query.{atom_at}
 use Rattle.cqa_model.specs.Variables.{AreLinked}
 use Rattle.cqa_model.specs.Plan.{TestHolds}
 use Rattle.weak_pairs.specs.Pairs.{FitsAlone}
-use Rattle.pair_answers.specs.Fitting.{GivenBy, none_cond}
+use Rattle.pair_answers.specs.Fitting.{GivenBy}
 use Rattle.pair_answers.specs.Plain.{IsJoin, IsPlain}
 use Rattle.pair_answers.proofs.Parts.{from_parts}
 
@@ -30,6 +31,6 @@ module _ (q : Query) (F : ℕ) (plain : IsPlain q F) (row x : List Value) where
   pub plain-fits : FitsAlone q row F x
   plain-fits = from_parts q row F x
       (λ j lj i li l. own i j li lj l (ℕ_discrete i j))
-      (λ k lk. holds (slice_index_or q.conds k none_cond) (plain.joins k lk))
+      (All-weaker IsJoin (TestHolds F x) holds q.conds plain.joins)
       (λ k lk i li l. let none = plain.none in absurd (omega (arith, lk, none)))
-      (λ k lk. gives (slice_index_or q.conds k none_cond) (plain.joins k lk))
+      (All-weaker IsJoin (GivenBy q F x) gives q.conds plain.joins)

@@ -1,7 +1,7 @@
 -- A row fits by itself where its parts do.
 use Rattle.std.proofs.Common.{◌≡◌, ℕ, ◌<◌, inl, inr, List, [], length, refl, ◌∙◌, subst, Contains, slice_index_or}
-use Rattle.std.proofs.lemmas.List.{get_or_default}
-use Rattle.std.proofs.lemmas.List.Elements.{Contains-get_or}
+use Rattle.std.specs.List.{All}
+use Rattle.std.proofs.lemmas.List.Elements.{All-contains, Contains-get_or}
 use Rattle.cqa_value.specs.declared.value.Value.{Value}
 use Rattle.cqa_model.specs.declared.query.Op.TheVariants.{Eq}
 use Rattle.cqa_model.specs.declared.query.Cond.{Cond}
@@ -14,8 +14,9 @@ use Rattle.cqa_model.specs.Variables.{AreLinked}
 use Rattle.cqa_model.specs.Plan.{Placed, TestHolds, answer_at}
 use Rattle.cqa_model.proofs.Classic.{mem-head, mem-nil, mem-cases}
 use Rattle.cqa_model.proofs.Views.{linked-self}
+use Rattle.join_access.specs.Deciding.{of_all}
 use Rattle.weak_pairs.specs.Pairs.{IsGiven, FitsAlone}
-use Rattle.pair_answers.specs.Fitting.{OwnFits, HasLinkedAnswer, GivenBy, none_cond, GivenFits, TestsFit}
+use Rattle.pair_answers.specs.Fitting.{OwnFits, HasLinkedAnswer, GivenBy, GivenFits}
 
 module _ (q : Query) (row : List Value) (F : ℕ) (x : List Value) where
   abbrev self : Placed
@@ -28,18 +29,15 @@ module _ (q : Query) (row : List Value) (F : ℕ) (x : List Value) where
   given-of f (Join c d) m = tt
   given-of f (Test d op y) m = λ e i li l. f.given i li y (inr (d, l, subst (λ z. Contains q.conds (Test d z y)) e m))
 
-  pub to_parts : FitsAlone q row F x → OwnFits q F x × TestsFit q F x × HasLinkedAnswer q row F x × GivenFits q F x
+  pub to_parts : FitsAlone q row F x → OwnFits q F x × All (TestHolds F x) q.conds × HasLinkedAnswer q row F x × GivenFits q F x
   to_parts f = (
     λ j lj i li l. f.fits.agrees self (mem-head self []) i li j lj l,
-    λ k lk. f.fits.tests (slice_index_or q.conds k none_cond) (Contains-get_or q.conds k none_cond lk),
+    of_all (TestHolds F x) q.conds f.fits.tests,
     λ k lk i li l. f.given i li (slice_index_or row k nothing) (inl (k, lk, l, refl)),
-    λ k lk. given-of f (slice_index_or q.conds k none_cond) (Contains-get_or q.conds k none_cond lk),
+    of_all (GivenBy q F x) q.conds (given-of f),
   )
 
-  cond-at : (k : Cond) (m : Contains q.conds k) → slice_index_or q.conds m.0 none_cond ≡ k
-  cond-at k m = get_or_default q.conds m.0 none_cond k m.1 ∙ m.2
-
-  pub from_parts : OwnFits q F x → TestsFit q F x → HasLinkedAnswer q row F x → GivenFits q F x → FitsAlone q row F x
+  pub from_parts : OwnFits q F x → All (TestHolds F x) q.conds → HasLinkedAnswer q row F x → GivenFits q F x → FitsAlone q row F x
   from_parts o t a g = record {
     fits = record {
       agrees = λ u m. elim (mem-cases u self [] m) [
@@ -47,7 +45,7 @@ module _ (q : Query) (row : List Value) (F : ℕ) (x : List Value) where
             (λ i li j lj l. o j lj i li l)
         | inr n ↦ absurd (mem-nil u n)
       ];
-      tests = λ k m. subst (λ z. TestHolds F x z) (cond-at k m) (t m.0 m.1);
+      tests = λ k m. All-contains (TestHolds F x) q.conds k t m;
       answers = λ i l e. a i l (answer_at q i).col (width i l e) (link i e);
     };
     given = λ i li y h. of i li y h;
@@ -61,4 +59,4 @@ module _ (q : Query) (row : List Value) (F : ℕ) (x : List Value) where
 
       of : (i : ℕ) → i < (atom_at q F).width → (y : Value) → IsGiven q row (at i) y → slice_index_or x i nothing ≡ y
       of i li y (inl (k, lk, l, e)) = a k lk i li l ∙ e
-      of i li y (inr (d, l, m)) = (subst (λ z. GivenBy q F x z) (cond-at (Test d Eq y) m) (g m.0 m.1)) refl i li l
+      of i li y (inr (d, l, m)) = All-contains (GivenBy q F x) q.conds (Test d Eq y) g m refl i li l

@@ -1,21 +1,16 @@
 -- Where the query alone tells that each row of an atom fits by itself.
-use Rattle.std.specs.Prelude.{◌≡◌, ◌≢◌, ℕ, ◌<◌, Bool, IsTrue, length, slice_index_or}
+use Rattle.std.specs.Prelude.{◌≡◌, ◌≢◌, ℕ, ◌<◌, Bool, IsTrue, All, length}
 use Rattle.std.proofs.Props.{props}
 use Rattle.cqa_model.specs.declared.query.Cond.{Cond}
 use Rattle.cqa_model.specs.declared.query.Cond.TheVariants.{Join, Test}
 use Rattle.cqa_model.specs.declared.query.Query.{Query}
 use Rattle.cqa_model.specs.Query.{atom_at}
 use Rattle.cqa_model.specs.Variables.{AreLinked}
-use Rattle.pair_answers.specs.Fitting.{none_cond}
 
 -- a condition is a join
 abbrev pub IsJoin : Cond → Type 0
 IsJoin (Join c d) = Unit {0}
 IsJoin (Test d op y) = ⊥
-
--- no condition is a test
-abbrev pub AreJoins : Query → Type 0
-AreJoins q = (k : ℕ) → k < length q.conds → IsJoin (slice_index_or q.conds k none_cond)
 
 -- different columns of an atom are of different variables
 abbrev pub AreColumnsApart : Query → ℕ → Type 0
@@ -24,7 +19,7 @@ AreColumnsApart q F = (i j : ℕ) → i < (atom_at q F).width → j < (atom_at q
 -- the query has no answer columns and no tests, and the atom no two columns of one variable
 pub record IsPlain (q : Query) (F : ℕ) : Type 0 where
   pub none : length q.answer ≡ 0
-  pub joins : AreJoins q
+  pub joins : All IsJoin q.conds
   pub apart : AreColumnsApart q F
 
 join_once : (c : Cond) → IsProp (IsJoin c)

@@ -6,12 +6,12 @@ ghost use Rattle.cqa_model.specs.declared.query.ColRef.{ColRef as Column};
 ghost use Rattle.cqa_model.specs.Query.{atom_at};
 ghost use Rattle.cqa_model.specs.Shape.{IsInRange, columns_of};
 ghost use Rattle.weak_pairs.specs.Pairs.{FitsAlone};
-ghost use Rattle.pair_answers.specs.Fitting.{HasLinkedAnswer, GivenBy, GivenFits, HasValueOf, HaveValueOf, OwnFits, TestsFit};
+ghost use Rattle.pair_answers.specs.Fitting.{HasLinkedAnswer, GivenBy, GivenFits, HasValueOf, HaveValueOf, OwnFits};
 
 use crate::side::Side;
 use cqa_model::{ColRef, Cond, Op, Query};
 use cqa_value::{NOTHING, Row, Value};
-use join_access::{are_linked, test_holds};
+use join_access::{are_linked, passes_tests};
 
 /// Whether a column of a row has the value of another column, if it is linked to that.
 fn has_value(side: &Side<'_, '_>, x: &Row, i: u32, other: ColRef, value: &Value) -> bool
@@ -69,18 +69,6 @@ fn answer_fits(side: &Side<'_, '_>, x: &Row) -> bool
     true
 }
 
-/// Whether a row of an atom passes all its tests.
-fn tests_fit(query: &Query, atom: u32, x: &Row) -> bool
-    ensures { IsTrue result ↔ TestsFit query.now atom x.now }
-{
-    for cond in query.conds.as_slice() {
-        if !test_holds(atom, x, cond) {
-            return false;
-        }
-    }
-    true
-}
-
 /// Whether the columns of a row have the value that a condition gives to them, if it gives one.
 fn given_by(side: &Side<'_, '_>, x: &Row, cond: &Cond) -> bool
     requires { (c : Column) → Contains (columns_of cond.now) c → IsInRange side.now.bound.now.query.now.atoms c }
@@ -118,7 +106,7 @@ pub(crate) fn fits(side: &Side<'_, '_>, x: &Row) -> bool
     if !own_fits(side, x) {
         return false;
     }
-    if !tests_fit(side.bound.query, side.atom, x) {
+    if !passes_tests(side.bound.query, side.atom, x) {
         return false;
     }
     if !answer_fits(side, x) {

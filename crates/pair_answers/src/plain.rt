@@ -1,9 +1,9 @@
 //! Whether the query alone tells that each row of an atom fits by itself, so that no row has to be looked at.
 
-ghost use Rattle.std.specs.Prelude.{◌≢◌, IsTrue};
+ghost use Rattle.std.specs.Prelude.{◌≢◌, IsTrue, All};
 ghost use Rattle.cqa_model.specs.Shape.{IsInRange};
 ghost use Rattle.cqa_model.specs.Variables.{AreLinked};
-ghost use Rattle.pair_answers.specs.Plain.{AreColumnsApart, AreJoins, IsJoin, IsPlain};
+ghost use Rattle.pair_answers.specs.Plain.{AreColumnsApart, IsJoin, IsPlain};
 
 use cqa_model::{ColRef, Cond, Query};
 use join_access::are_linked;
@@ -21,14 +21,10 @@ fn is_join(cond: &Cond) -> bool
 
 /// Whether no condition is a test.
 fn are_joins(query: &Query) -> bool
-    ensures { IsTrue result → AreJoins query.now }
+    ensures { IsTrue result → All IsJoin query.now.conds }
 {
-    for cond in query.conds.as_slice() {
-        if !is_join(cond) {
-            return false;
-        }
-    }
-    true
+    let conds = query.conds.as_slice();
+    conds.iter().all(is_join)
 }
 
 /// Whether two columns of an atom are one, or of different variables.

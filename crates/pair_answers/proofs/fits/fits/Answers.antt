@@ -12,7 +12,7 @@ pub returns : goal.returns
 returns c =
     let side = c.args.side.now in
     let q = side.bound.now.query.now in (
-      λ e. from_parts q side.row.now side.atom c.args.x.now (c.own_fits.ensures.0 c.if-not-own_fits.false) (c.tests_fit.ensures.0 c.if-not-tests_fit.false) (c.answer_fits.ensures.0 c.if-not-answer_fits.false) (c.given_fits.ensures.0 e),
+      λ e. from_parts q side.row.now side.atom c.args.x.now (c.own_fits.ensures.0 c.if-not-own_fits.false) (c.passes_tests.ensures.0 c.if-not-passes_tests.false) (c.answer_fits.ensures.0 c.if-not-answer_fits.false) (c.given_fits.ensures.0 e),
       λ f. c.given_fits.ensures.1 (to_parts q side.row.now side.atom c.args.x.now f).3,
     )
 

@@ -1,7 +1,5 @@
-use Rattle.std.proofs.Common.{◌∙◌, ◌∷◌, refl, sym, subst}
+use Rattle.std.proofs.Common.{◌∙◌, ◌∷◌, refl, sym}
 use Rattle.std.proofs.lemmas.Bool.{false≢true}
-use Rattle.std.specs.List.{All}
-use Rattle.cqa_model.specs.Plan.{TestHolds}
 use Rattle.plan_rows.specs.Over.{look_query, look_taken}
 use Rattle.plan_rows.proofs.Suiting.{agrees-more, agrees-not, suits-of}
 use Rattle.plan_rows.proofs.fitting.suits.Goals as goal
@@ -12,9 +10,8 @@ returns-then-agrees_within c =
     let taken = look_taken c.args.look.now in
     let F = c.args.look.now.atom in
     let x = c.args.x.now in
-    let tests = subst (All (TestHolds F x)) c.as_slice.ensures (c.passes_all.ensures.0 c.if-not-passes_all.false) in
     let all = agrees-more q F x (record { atom = F; row = x } ∷ taken) (record { atom = F; row = x }) taken refl c.agrees_all.result c.agrees_all.ensures (c.agrees_within.ensures.0 c.if-agrees_within.true) in
-    ((λ t. suits-of q taken F x (all.0 t) tests), (λ s. all.1 s.agrees))
+    ((λ t. suits-of q taken F x (all.0 t) (c.passes_tests.ensures.0 c.if-not-passes_tests.false)), (λ s. all.1 s.agrees))
 
 pub returns-else-agrees_within : goal.returns-else-agrees_within
 returns-else-agrees_within c =
