@@ -13,7 +13,7 @@ use cqa_value::Row;
 use plan_rows::{Step, fits};
 
 /// Whether each of these rows fits the rows taken and a candidate.
-fn fit_each(step: &Step<'_>, row: &Row, rows: &[Row]) -> bool
+fn fit_each(step: &Step<'_, '_>, row: &Row, rows: &[Row]) -> bool
     ensures { IsTrue result ↔ FitEach (query_of step.now) row.now (rows_before step.now) step.now.atom rows.now }
 {
     let look = step.look();
@@ -29,7 +29,7 @@ fn list_same(a: &Node, b: &Node) -> bool
 
 /// Why the block at a place can't stand where one of the step's atom is due; `None` where it can.
 pub fn node_fault(
-    step: &Step<'_>,
+    step: &Step<'_, '_>,
     row: &Row,
     nodes: &[Node],
     marks: &[Mark],

@@ -52,7 +52,7 @@ pub fn tree<'x>(
 /// The same of a tree whose first block is of the step's atom.
 #[cycle(tree)]
 fn one<'x>(
-    step: &Step<'x>,
+    step: &Step<'x, '_>,
     row: &'x Row,
     nodes: &'x [Node],
     marks: &'x [Mark],
@@ -79,7 +79,7 @@ fn one<'x>(
 /// The same of the trees under the rows of a block.
 #[cycle(tree)]
 fn under<'x>(
-    step: &Step<'x>,
+    step: &Step<'x, '_>,
     row: &'x Row,
     rows: &'x [Row],
     nodes: &'x [Node],

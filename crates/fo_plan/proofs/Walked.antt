@@ -1,15 +1,16 @@
 -- Blocks that are gone over one after the other, in rows in block order.
-use Rattle.std.proofs.Common.{◌≡◌, ◌↔◌, ◌<◌, ◌≤◌, ◌+◌, ◌-◌, ℕ, suc, Bool, IsTrue, false, Option, None, Some, IfSome, List, [], ◌∷◌, length, take, drop, refl, sym, ap, ◌∙◌, subst, arith, Contains}
+use Rattle.std.proofs.Common.{◌≡◌, ◌↔◌, ◌<◌, ◌≤◌, ◌+◌, ◌-◌, ℕ, suc, Bool, IsTrue, false, Option, None, Some, IfSome, List, [], ◌∷◌, ◌++◌, length, take, drop, refl, sym, ap, ◌∙◌, subst, arith, Contains}
 use native.Mathlib.Decide.{dec_lt}
 use Rattle.std.specs.List.Sorted.{IsStrictlySortedBy}
 use Rattle.std.proofs.lemmas.Bool.{false≢true}
-use Rattle.std.proofs.lemmas.List.{drop-drop, length-drop, length-take-le, get_or_default, get_or-drop, get_or-take}
+use Rattle.std.proofs.lemmas.List.{drop-drop, length-drop, length-take-le, get_or_default, get_or-drop, get_or-take, take-append-drop}
 use Rattle.std.proofs.lemmas.List.Elements.{Contains-get_or}
 use Rattle.cqa_value.specs.declared.value.Value.{Value}
 use Rattle.cqa_model.specs.Repairs.{SharesKey}
 use Rattle.cqa_model.specs.Database.{block_cmp}
 use Rattle.cqa_model.proofs.BlockOrder.{grouped}
 use Rattle.cqa_model.proofs.Repairs.{shares-sym, shares-trans}
+use Rattle.table_blocks.proofs.Spanning.{sorted-part}
 use Rattle.plan_rows.specs.Wanted.{IsWanted, NoneWanted}
 use Rattle.plan_rows.specs.declared.wanted.Wanted.{Wanted}
 use Rattle.plan_rows.specs.declared.wanted.Wanted.TheVariants.{All}
@@ -52,7 +53,8 @@ module _ (key : List ℕ) (rows : List (List Value)) (sorted : IsStrictlySortedB
     there = there;
     leads = leads there;
     some = let l = size in omega (arith, l, behind);
-    first = cell 0 behind ∙ read-first;
+    in_order = sorted-part (block_cmp key) (take at rows) block (drop end rest)
+        (subst (IsStrictlySortedBy (block_cmp key)) (sym (take-append-drop at rows) ∙ ap (λ l. take at rows ++ l) (sym is ∙ (sym (take-append-drop end rest) ∙ ap (λ b. b ++ drop end rest) (sym e)))) sorted);
     exactly = λ y. (
       (λ m. let i = m.0 in let l = m.1 in let n = size in
           let near : i < end = omega (arith, l, n) in

@@ -1,10 +1,8 @@
 -- The block by which a plan holds.
-use Rattle.std.specs.Prelude.{◌≡◌, ℕ, List, [], ◌∷◌, ◌++◌, Contains}
-use Rattle.std.specs.List.Sorted.{IsStrictlySortedBy}
+use Rattle.std.specs.Prelude.{ℕ, List, [], ◌∷◌, ◌++◌, Contains}
 use Rattle.cqa_value.specs.declared.value.Value.{Value}
 use Rattle.cqa_model.specs.declared.query.Query.{Query}
-use Rattle.cqa_model.specs.Database.{Table, stored, block_cmp}
-use Rattle.cqa_model.specs.Repairs.{SharesKey}
+use Rattle.cqa_model.specs.Database.{Table, stored}
 use Rattle.cqa_model.specs.Blocks.{AreBlocks}
 use Rattle.cqa_model.specs.Query.{atom_key, rows_of}
 use Rattle.plan_rows.specs.Links.{RowHolds}
@@ -22,13 +20,3 @@ pub record IsFirstWith (key : List ℕ) (rows : List (List Value)) (P : List Val
 abbrev pub IsFirstBlock : List Table → Query → List Value → List ℕ → List (List Value) → Type 0
 IsFirstBlock db q row [] block = ⊥
 IsFirstBlock db q row (F ∷ plan) block = IsFirstWith (atom_key q F) (rows_of q (stored db) F) (RowHolds q (stored db) row [] F plan) block
-
--- the block of a row among rows in block order
-pub record IsBlockOfRow (key : List ℕ) (rows : List (List Value)) (x : List Value) (block : List (List Value)) : Type 0 where
-  pub in_order : IsStrictlySortedBy (block_cmp key) rows
-  pub before : List (List Value)
-  pub behind : List (List Value)
-  pub parts : rows ≡ before ++ (block ++ behind)
-  pub alike : (y : List Value) → Contains block y → SharesKey key x y
-  pub none_before : (y : List Value) → Contains before y → SharesKey key x y → ⊥
-  pub none_behind : (y : List Value) → Contains behind y → SharesKey key x y → ⊥

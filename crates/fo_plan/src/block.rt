@@ -1,17 +1,16 @@
 //! The block by which a plan holds.
 
-ghost use Rattle.std.specs.Prelude.{◌≡◌, ℕ, ◌<◌, MatchOption, Contains, length};
+ghost use Rattle.std.specs.Prelude.{ℕ, ◌<◌, MatchOption, Contains, length};
 ghost use Rattle.cqa_model.specs.OneTable.{SomeBlockFits};
 ghost use Rattle.cqa_model.specs.Query.{atom_key, rows_of};
 ghost use Rattle.cqa_model.specs.Plan.{HoldsOver};
-ghost use Rattle.table_blocks.specs.Tables.{rows_at, key_at};
 ghost use Rattle.join_access.specs.Spots.{ArePaths};
 ghost use Rattle.plan_rows.specs.Left.{AreQueryAtoms};
 ghost use Rattle.plan_rows.specs.Links.{AreWays};
 ghost use Rattle.plan_rows.specs.Over.{query_of, stored_rows};
 ghost use Rattle.plan_rows.specs.Underway.{IsRight};
 ghost use Rattle.fo_plan.specs.Holding.{PlanHoldsWith};
-ghost use Rattle.fo_plan.specs.FirstBlock.{IsBlockOfRow, IsFirstBlock, IsFirstWith};
+ghost use Rattle.fo_plan.specs.FirstBlock.{IsFirstBlock, IsFirstWith};
 
 use crate::enough::Blocks;
 use crate::holding::first_of;
@@ -22,54 +21,26 @@ use plan_rows::{
     Candidates, Course, JoinedColumns, Link, Memo, Setting, Step, Taken, grouped_along,
     shared_or_none,
 };
-use row_blocks::{block_end, block_start};
 use row_pieces::Rows;
 use std::alloc::Global;
-use table_blocks::{Bound, Database};
-
-/// The block of a row in a table.
-fn block_with<'a>(db: &'a Database, table: u32, row: &Row) -> Rows<'a>
-    requires there { table < length db.now }
-    requires stored { Contains (rows_at db.now table) row.now }
-    ensures { IsBlockOfRow (key_at db.now table) (rows_at db.now table) row.now result }
-{
-    let Some(at) = db.place_of(table, row) else {
-        unreachable!()
-    };
-    let rows = db.rows(table);
-    let key = db.schema(table).key.as_slice();
-    let (_, rest) = rows.split_at(block_start(&rows, key, at as usize));
-    let (block, _) = rest.split_at(block_end(&rest, key, 0));
-    block
-}
+use table_blocks::Bound;
 
 /// The first block, in block order, of the next atom's table all of whose rows fit and have the rest of the plan hold with
 /// them; `None` exactly where there is none. What is found of rests of the plan is remembered.
-pub fn first_block<'a, 'x>(
-    db: &'a Database,
-    step: &Step<'x>,
-    row: &'x Row,
-    memo: &mut Memo,
-) -> Option<Rows<'a>>
-    requires db { step.now.course.now.setting.bound.now.db.now ≡ db.now }
-    requires memo { IsRight step.now.course.now memo.old }
+pub fn first_block<'x, 'a>(step: &Step<'x, 'a>, row: &'x Row, memo: &mut Memo) -> Option<Rows<'a>>
+    requires { IsRight step.now.course.now memo.old }
     ensures memo { IsRight step.now.course.now memo.new }
     ensures block { MatchOption result (SomeBlockFits (atom_key (query_of step.now) step.now.atom) (rows_of (query_of step.now) (stored_rows step.now) step.now.atom) (PlanHoldsWith step.now row.now) → ⊥) (λ block. SomeBlockFits (atom_key (query_of step.now) step.now.atom) (rows_of (query_of step.now) (stored_rows step.now) step.now.atom) (PlanHoldsWith step.now row.now) × IsFirstWith (atom_key (query_of step.now) step.now.atom) (rows_of (query_of step.now) (stored_rows step.now) step.now.atom) (PlanHoldsWith step.now row.now) block) }
 {
     let blocks = Blocks::new(step, Some(row));
     let found = first_of(step, row, &blocks, memo);
     drop(blocks);
-    let block = found?;
-    let course = step.course;
-    let table = course.setting.bound.table_of(step.atom);
-    // `block` is borrowed as long as the step only, so it is looked up in the database.
-    Some(block_with(db, table, block.get(0)))
+    found
 }
 
 /// The first block of the first atom of a plan by which it holds.
-fn found_block<'a, 'x>(db: &'a Database, course: &'x Course<'x>, row: &'x Row) -> Option<Rows<'a>>
-    requires db { course.now.setting.bound.now.db.now ≡ db.now }
-    requires all { (F : ℕ) → F < length course.now.setting.bound.now.query.now.atoms → Contains course.now.order.now F }
+fn found_block<'x, 'a>(course: &'x Course<'x, 'a>, row: &'x Row) -> Option<Rows<'a>>
+    requires { (F : ℕ) → F < length course.now.setting.bound.now.query.now.atoms → Contains course.now.order.now F }
     ensures { MatchOption result (HoldsOver course.now.setting.bound.now.db.now course.now.setting.bound.now.query.now row.now course.now.order.now → ⊥) (λ block. HoldsOver course.now.setting.bound.now.db.now course.now.setting.bound.now.query.now row.now course.now.order.now × IsFirstBlock course.now.setting.bound.now.db.now course.now.setting.bound.now.query.now row.now course.now.order.now block) }
 {
     let plan = course.order;
@@ -84,7 +55,7 @@ fn found_block<'a, 'x>(db: &'a Database, course: &'x Course<'x>, row: &'x Row) -
                 rest,
             };
             let mut memo = Memo::over(&course.setting, Candidates::One);
-            let found = first_block(db, &step, &*row, &mut memo);
+            let found = first_block(&step, &*row, &mut memo);
             drop(memo);
             found
         }
@@ -93,17 +64,15 @@ fn found_block<'a, 'x>(db: &'a Database, course: &'x Course<'x>, row: &'x Row) -
 
 /// The first block of the first atom of an order by which it holds.
 fn block_along<'a>(
-    db: &'a Database,
-    setting: Setting<'_>,
+    setting: Setting<'a>,
     order: &[u32],
     row: &Row,
     ways: &[Items<Link<'_>>],
 ) -> Option<Rows<'a>>
-    requires db { setting.bound.now.db.now ≡ db.now }
     requires order { AreQueryAtoms setting.bound.now.query.now order.now }
     requires all { (F : ℕ) → F < length setting.bound.now.query.now.atoms → Contains order.now F }
-    requires ways { AreWays setting.bound.now.query.now db.now order.now ways.now }
-    ensures { MatchOption result (HoldsOver db.now setting.entry.bound.now.query.now row.now order.now → ⊥) (λ block. HoldsOver db.now setting.entry.bound.now.query.now row.now order.now × IsFirstBlock db.now setting.entry.bound.now.query.now row.now order.now block) }
+    requires ways { AreWays setting.bound.now.query.now setting.bound.now.db.now order.now ways.now }
+    ensures { MatchOption result (HoldsOver setting.entry.bound.now.db.now setting.entry.bound.now.query.now row.now order.now → ⊥) (λ block. HoldsOver setting.entry.bound.now.db.now setting.entry.bound.now.query.now row.now order.now × IsFirstBlock setting.entry.bound.now.db.now setting.entry.bound.now.query.now row.now order.now block) }
 {
     let shared = shared_or_none(&setting, order);
     let course = Course {
@@ -112,7 +81,7 @@ fn block_along<'a>(
         shared: shared.as_slice(),
         ways,
     };
-    found_block(db, &course, row)
+    found_block(&course, row)
 }
 
 /// The first block, in block order, of the plan's first atom by which the plan holds for a row: all its rows fit the
@@ -122,10 +91,10 @@ fn block_along<'a>(
 /// rows were looked at, what was decided of rests is remembered, as far as there is memory for it.
 pub fn block_of<'a>(
     alloc: Global,
-    bound: &Bound<'a>,
+    bound: &'a Bound<'a>,
     plan: &Plan,
     row: &Row,
-    paths: &[Option<RowIndex<'_>>],
+    paths: &'a [Option<RowIndex<'a>>],
     ways: &[Items<Link<'_>>],
 ) -> Option<Rows<'a>>
     requires plan { AreQueryAtoms bound.now.query.now plan.now.order }
@@ -137,12 +106,12 @@ pub fn block_of<'a>(
     let order = plan.order.as_slice();
     let setting = Setting {
         alloc,
-        bound: &*bound,
-        paths: &*paths,
+        bound,
+        paths,
         joined: JoinedColumns::new(bound),
     };
     match grouped_along(&setting, order, ways) {
-        Some(grouped) => block_along(bound.db, setting, grouped.as_slice(), row, ways),
-        None => block_along(bound.db, setting, order, row, ways),
+        Some(grouped) => block_along(setting, grouped.as_slice(), row, ways),
+        None => block_along(setting, order, row, ways),
     }
 }

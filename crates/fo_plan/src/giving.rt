@@ -23,7 +23,7 @@ use row_answers::Answers;
 use row_pieces::Rows;
 
 /// Whether all rows of a block fit the rows taken, but for a candidate.
-fn all_suit(step: &Step<'_>, block: &Rows<'_>) -> bool
+fn all_suit(step: &Step<'_, '_>, block: &Rows<'_>) -> bool
     ensures { IsTrue result ↔ ((y : List Cell) → Contains block.now y → Suits (query_of step.now) (rows_before step.now) step.now.atom y) }
 {
     let look = step.look();
@@ -37,7 +37,7 @@ fn all_suit(step: &Step<'_>, block: &Rows<'_>) -> bool
 
 /// Adds a row if all of these rows of a block hold for it.
 fn keep_one(
-    step: &Step<'_>,
+    step: &Step<'_, '_>,
     block: &Rows<'_>,
     row: Row,
     found: &mut Answers,
@@ -57,7 +57,7 @@ fn keep_one(
 
 /// Adds those of the rows proposed for which all of these rows of a block hold.
 fn keep_all(
-    step: &Step<'_>,
+    step: &Step<'_, '_>,
     block: &Rows<'_>,
     part: &mut Answers,
     found: &mut Answers,
@@ -167,7 +167,7 @@ pub(crate) fn add_given(
 /// Adds the rows that an atom's table gives where nothing of the atoms that are left is shared with the rows taken, and notes
 /// whether there are some.
 #[cycle(giving)]
-fn add_apart(step: &Step<'_>, found: &mut Answers, notes: &mut Notes) -> Result<(), NoMemory>
+fn add_apart(step: &Step<'_, '_>, found: &mut Answers, notes: &mut Notes) -> Result<(), NoMemory>
     requires all { StepHasAll step.now }
     requires apart { StandsApart step.now.course.now (rows_before step.now) }
     requires notes { AreRight step.now.course.now notes.old }
@@ -184,7 +184,7 @@ fn add_apart(step: &Step<'_>, found: &mut Answers, notes: &mut Notes) -> Result<
 /// The same, by way of a list of what is given.
 #[cycle(giving)]
 fn add_or_note(
-    step: &Step<'_>,
+    step: &Step<'_, '_>,
     part: &mut Answers,
     found: &mut Answers,
     notes: &mut Notes,
@@ -207,7 +207,7 @@ fn add_or_note(
 
 /// Adds the rows that the blocks of an atom's table give.
 #[cycle(giving)]
-fn add_blocks(step: &Step<'_>, found: &mut Answers, notes: &mut Notes) -> Result<(), NoMemory>
+fn add_blocks(step: &Step<'_, '_>, found: &mut Answers, notes: &mut Notes) -> Result<(), NoMemory>
     requires all { StepHasAll step.now }
     requires notes { AreRight step.now.course.now notes.old }
     ensures added { OnOk result (IsAdded (StepGives step.now) found.old found.new) }
@@ -222,8 +222,8 @@ fn add_blocks(step: &Step<'_>, found: &mut Answers, notes: &mut Notes) -> Result
 /// Adds the rows that these blocks give.
 #[cycle(giving)]
 fn add_all_of(
-    step: &Step<'_>,
-    blocks: &Blocks<'_>,
+    step: &Step<'_, '_>,
+    blocks: &Blocks<'_, '_>,
     found: &mut Answers,
     notes: &mut Notes,
 ) -> Result<(), NoMemory>
@@ -243,7 +243,7 @@ fn add_all_of(
 /// Adds the rows that a block gives: the first of its rows proposes, and the others test.
 #[cycle(giving)]
 fn add_block(
-    step: &Step<'_>,
+    step: &Step<'_, '_>,
     block: &Rows<'_>,
     found: &mut Answers,
     notes: &mut Notes,
@@ -276,7 +276,7 @@ fn add_block(
 /// Adds the rows that a block of two or more rows gives, all of which fit. `part` is where they are tested.
 #[cycle(giving)]
 fn add_tested(
-    step: &Step<'_>,
+    step: &Step<'_, '_>,
     block: &Rows<'_>,
     part: &mut Answers,
     found: &mut Answers,

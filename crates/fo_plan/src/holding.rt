@@ -45,7 +45,7 @@ pub(crate) fn holds_with<'x>(rest: &Rest<'x>, row: &'x Row, memo: &mut Memo) -> 
 
 /// Whether the rest of a plan holds, which is looked up by its key, or decided and remembered under it.
 #[cycle(holds)]
-fn remembered<'x>(step: &Step<'x>, row: &'x Row, key: Row, memo: &mut Memo) -> bool
+fn remembered<'x>(step: &Step<'x, '_>, row: &'x Row, key: Row, memo: &mut Memo) -> bool
     requires memo { IsRight step.now.course.now memo.old }
     requires key { IsMemoKey step.now.course.now (rows_before step.now) (step.now.atom ∷ step.now.rest.now) row.now key }
     ensures holds { IsTrue result ↔ PlanHolds (query_of step.now) (stored_rows step.now) row.now (rows_before step.now) (step.now.atom ∷ step.now.rest.now) }
@@ -62,7 +62,7 @@ fn remembered<'x>(step: &Step<'x>, row: &'x Row, key: Row, memo: &mut Memo) -> b
 
 /// Whether all rows of some block of an atom's table hold.
 #[cycle(holds)]
-fn some_block<'x>(step: &Step<'x>, row: &'x Row, memo: &mut Memo) -> bool
+fn some_block<'x>(step: &Step<'x, '_>, row: &'x Row, memo: &mut Memo) -> bool
     requires { IsRight step.now.course.now memo.old }
     ensures holds { IsTrue result ↔ SomeBlockFits (atom_key (query_of step.now) step.now.atom) (rows_of (query_of step.now) (stored_rows step.now) step.now.atom) (PlanHoldsWith step.now row.now) }
     ensures memo { IsRight step.now.course.now memo.new }
@@ -75,12 +75,12 @@ fn some_block<'x>(step: &Step<'x>, row: &'x Row, memo: &mut Memo) -> bool
 
 /// The first of these blocks all of whose rows hold.
 #[cycle(holds)]
-pub(crate) fn first_of<'x>(
-    step: &Step<'x>,
+pub(crate) fn first_of<'x, 'a>(
+    step: &Step<'x, 'a>,
     row: &'x Row,
-    blocks: &Blocks<'x>,
+    blocks: &Blocks<'x, 'a>,
     memo: &mut Memo,
-) -> Option<Rows<'x>>
+) -> Option<Rows<'a>>
     requires sought { AreSought blocks.now (PlanHoldsWith step.now row.now) }
     requires memo { IsRight step.now.course.now memo.old }
     ensures first { MatchOption result (SomeBlockFits blocks.now.key.now blocks.now.rows (PlanHoldsWith step.now row.now) → ⊥) (IsFirstOf blocks.now.key.now blocks.now.rows (PlanHoldsWith step.now row.now)) }
@@ -97,7 +97,12 @@ pub(crate) fn first_of<'x>(
 
 /// Whether all of these rows hold.
 #[cycle(holds)]
-pub(crate) fn all_hold<'x>(step: &Step<'x>, row: &'x Row, block: &Rows<'_>, memo: &mut Memo) -> bool
+pub(crate) fn all_hold<'x>(
+    step: &Step<'x, '_>,
+    row: &'x Row,
+    block: &Rows<'_>,
+    memo: &mut Memo,
+) -> bool
     requires { IsRight step.now.course.now memo.old }
     ensures holds { IsTrue result ↔ AllHoldWith step.now row.now block.now }
     ensures memo { IsRight step.now.course.now memo.new }
@@ -112,7 +117,7 @@ pub(crate) fn all_hold<'x>(step: &Step<'x>, row: &'x Row, block: &Rows<'_>, memo
 
 /// Whether a row fits, and the rest of the plan holds with it.
 #[cycle(holds)]
-fn row_holds<'x>(step: &Step<'x>, row: &'x Row, y: &Row, memo: &mut Memo) -> bool
+fn row_holds<'x>(step: &Step<'x, '_>, row: &'x Row, y: &Row, memo: &mut Memo) -> bool
     requires { IsRight step.now.course.now memo.old }
     ensures holds { IsTrue result ↔ PlanHoldsWith step.now row.now y.now }
     ensures memo { IsRight step.now.course.now memo.new }

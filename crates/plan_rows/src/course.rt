@@ -17,11 +17,11 @@ const FEWEST_KEPT: usize = 1_024;
 /// linked to columns of the others, as far as there are such lists, and by atom the later atoms by which it is linked to those
 /// before it, where links are wanted.
 #[derive(Drop)]
-pub struct Course<'a> {
+pub struct Course<'x, 'a> {
     pub setting: Setting<'a>,
-    pub order: &'a [u32],
-    pub shared: &'a [Items<ColRef>],
-    pub ways: &'a [Items<Link<'a>>],
+    pub order: &'x [u32],
+    pub shared: &'x [Items<ColRef>],
+    pub ways: &'x [Items<Link<'x>>],
     pub ghost atoms: { AreQueryAtoms setting.bound.now.query.now order.now },
     pub ghost shares: { ∥ AreSharedInParts setting.bound.now.query.now order.now shared.now ∥₁ },
     pub ghost linked: { ∥ AreWays setting.bound.now.query.now setting.bound.now.db.now order.now ways.now ∥₁ },

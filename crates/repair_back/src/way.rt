@@ -13,7 +13,7 @@ use table_blocks::Bound;
 /// enough for the others: what those between share with these, the first ones share too.
 #[derive(Drop)]
 pub(crate) struct Way<'a> {
-    pub course: &'a Course<'a>,
+    pub course: &'a Course<'a, 'a>,
     pub row: &'a Row,
     pub enough: &'a [usize],
     pub ghost long: { length row.now ≡ length course.now.setting.bound.now.query.now.answer },

@@ -1,24 +1,22 @@
 -- The tree that a plan makes: it is there, it is one alone, and it passes.
-use Rattle.std.proofs.Common.{◌≡◌, inl, inr, ℕ, ◌<◌, List, [], ◌∷◌, ◌++◌, length, get_or, filter, slice_get, Some, Contains, refl, ap, sym, ◌∙◌, subst, arith}
+use Rattle.std.proofs.Common.{◌≡◌, inl, inr, ℕ, ◌<◌, List, [], ◌∷◌, ◌++◌, length, get_or, filter, Contains, refl, ap, sym, ◌∙◌, subst}
 use Rattle.std.specs.List.{AllZip}
 use Rattle.std.specs.List.Sorted.{IsStrictlySortedBy}
 use Rattle.std.specs.declared.cmp.Ordering.TheVariants.{Less}
 use Rattle.std.proofs.lemmas.List.Kept.{IsStrictlySortedBy-filter}
 use Rattle.std.proofs.lemmas.List.Elements.{Contains-get_or}
 use Rattle.std.proofs.lemmas.Map.Keys.{Less-from_sorted}
-use Rattle.std.proofs.lemmas.Option.{slice_get_cases}
 use Rattle.cqa_value.specs.declared.value.Value.{Value}
 use Rattle.cqa_value.specs.Values.{row_eq}
 use Rattle.cqa_value.proofs.Words.{Contains-from_flat_map, all_zip_right, not_less}
 use Rattle.cqa_model.specs.declared.query.Query.{Query}
-use Rattle.cqa_model.specs.Database.{Table, IsDatabase, block_cmp, key_of, keys_of, stored}
+use Rattle.cqa_model.specs.Database.{block_cmp, key_of, stored}
 use Rattle.cqa_model.specs.Blocks.{AreBlocks}
-use Rattle.cqa_model.specs.Query.{atom_at, atom_key, rows_of, FitsDatabase}
+use Rattle.cqa_model.specs.Query.{atom_key, rows_of}
 use Rattle.cqa_model.specs.Plan.{Placed, PlanHolds}
-use Rattle.cqa_model.proofs.Classic.{mem-head, mem-tail, mem-nil, mem-cases, dec_both, dec_each}
+use Rattle.cqa_model.proofs.Classic.{mem-head, mem-tail, mem-nil, mem-cases, dec_both}
 use Rattle.cqa_model.proofs.Decisions.{dec_fits, dec_plan}
 use Rattle.cqa_model.proofs.BlockOrder.{block_total, key-from_shares}
-use Rattle.cqa_model.proofs.Places.{rows-at, key-at}
 use Rattle.cqa_model.proofs.Elimination.{plan-eliminates}
 use Rattle.cqa_model.specs.Variables.{whole}
 use Rattle.fo_rewrite.proofs.Distinct.{plan-distinct, plan-atoms, plan-all}
@@ -27,45 +25,16 @@ use Rattle.block_tree.specs.Trees.{IsBlockOf, IsTree, ListAlike, listing, first_
 use Rattle.block_tree.proofs.Zips.{zip_weaker}
 use Rattle.plan_rows.specs.Links.{RowHolds}
 use Rattle.fo_plan.specs.FirstBlock.{IsFirstWith}
+use Rattle.fo_plan.proofs.First.{rows-in_order, some-first}
 use Rattle.rewrite_text.specs.Made.{IsMade}
 use Rattle.rewrite_text.specs.Laws.{MadeExists, MadeOnce, MadePasses}
 use Rattle.rewrite_text.proofs.Blocks.{same_key, stored as block_stored, block_is, in_block, in_shares, has_some_row, blocks_once}
-use Rattle.row_cursor.specs.Blocks.{blocks_of}
-use Rattle.row_cursor.proofs.Parting.{side_by_side, blocks-are}
-use Rattle.row_cursor.proofs.BlockLists.{row_in, block_of as block_with}
 
 abbrev node : ℕ → List (List Value) → Node
 node F rows = record { atom = F; rows = rows }
 
 abbrev placed : ℕ → List Value → Placed
 placed F x = record { atom = F; row = x }
-
--- the first block all of whose rows have a property
-abbrev Found : (List Value → Type 0) → List (List (List Value)) → Type 0
-Found P xs = (before : List (List (List Value))) × (c : List (List Value)) × (behind : List (List (List Value))) × (xs ≡ before ++ c ∷ behind) × ((y : List Value) → Contains c y → P y) ×
-    ((d : List (List Value)) → Contains before d → ((y : List Value) → Contains d y → P y) → ⊥)
-
-first_good : (P : List Value → Type 0) → ((y : List Value) → Dec (P y)) → (bs : List (List (List Value))) (b : List (List Value)) → Contains bs b → ((y : List Value) → Contains b y → P y) → Found P bs
-first_good P dec [] b m h = absurd (mem-nil b m)
-first_good P dec (c ∷ bs) b m h = go (dec_each P dec c) (λ n. first_good P dec bs b n h)
-  where
-    go : Dec ((y : List Value) → Contains c y → P y) → (Contains bs b → Found P bs) → Found P (c ∷ bs)
-    go (yes all) next = ([], c, bs, refl, all, λ d n. absurd (mem-nil d n))
-    go (no f) next = elim (mem-cases b c bs m) [
-      | inl e ↦ absurd (f (subst (λ z. (y : List Value) → Contains z y → P y) (sym e) h))
-      | inr n ↦
-          let r = next n in (
-            c ∷ r.0,
-            r.1,
-            r.2,
-            ap (λ z. c ∷ z) r.3,
-            r.4,
-            λ d k all. elim (mem-cases d c r.0 k) [
-              | inl e ↦ f (subst (λ z. (y : List Value) → Contains z y → P y) (sym e) all)
-              | inr j ↦ r.5 d j all
-            ],
-          )
-    ]
 
 choose_zip : {A B : Type 0} (R : A → B → Type 0) (xs : List A) → ((x : A) → Contains xs x → (y : B) × R x y) → (ys : List B) × AllZip R xs ys
 choose_zip R [] h = ([], tt)
@@ -120,17 +89,10 @@ module _ (q : Query) (tables : List (List (List Value))) (row : List Value) wher
   module _ (sorted : (F : ℕ) → F < length q.atoms → IsStrictlySortedBy (block_cmp (atom_key q F)) (rows_of q tables F)) where
     exists : (plan : List ℕ) (taken : List Placed) → ((F : ℕ) → Contains plan F → F < length q.atoms) → PlanHolds q tables row taken plan → (nodes : List Node) × IsMade q tables row taken plan nodes
     exists [] taken inside holds = ([], refl)
-    exists (F ∷ plan) taken inside (x, mx, h) =
-        let key = atom_key q F in
-        let rows = rows_of q tables F in
-        let are : AreBlocks key rows (blocks_of key rows) = blocks-are key rows (side_by_side key rows (sorted F (inside F (mem-head F plan)))) in
-        let found = block_with key rows (blocks_of key rows) are x mx in
-        let good = first_good (Holds taken F plan) (dec_holds taken F plan) (blocks_of key rows) found.0 found.1
-        (λ y my. h y (row_in key rows (blocks_of key rows) are found.0 y found.1 my) (are.alike found.0 found.1 x y found.2 my)) in
-        let parts = choose_zip (λ y part. IsMade q tables row (placed F y ∷ taken) plan part) good.1 (λ y m. exists plan (placed F y ∷ taken) (λ G n. inside G (mem-tail G F plan n)) (good.4 y m).1) in (
-          node F good.1 ∷ listing parts.0,
-          (good.1, parts.0, refl {a = node F good.1 ∷ listing parts.0}, record { before = good.0; behind = good.2; blocks = subst (AreBlocks key rows) good.3 are; all = good.4; none = good.5 }, parts.1),
-        )
+    exists (F ∷ plan) taken inside holds =
+        let good = some-first (atom_key q F) (rows_of q tables F) (Holds taken F plan) (dec_holds taken F plan) (sorted F (inside F (mem-head F plan))) holds in
+        let parts = choose_zip (λ y part. IsMade q tables row (placed F y ∷ taken) plan part) good.0 (λ y m. exists plan (placed F y ∷ taken) (λ G n. inside G (mem-tail G F plan n)) (good.1.all y m).1) in
+        (node F good.0 ∷ listing parts.0, (good.0, parts.0, refl {a = node F good.0 ∷ listing parts.0}, good.1, parts.1))
 
     block_of : (F : ℕ) → F < length q.atoms → (rows : List (List Value)) (before behind : List (List (List Value))) → AreBlocks (atom_key q F) (rows_of q tables F) (before ++ rows ∷ behind) → IsBlockOf (atom_key q F) rows
     block_of F l rows before behind are =
@@ -182,23 +144,8 @@ module _ (q : Query) (tables : List (List (List Value))) (row : List Value) wher
 pub made_once : MadeOnce
 made_once db q row plan a b h k = once q (stored db) row plan [] a b h k
 
--- the rows of an atom's table stand in block order
-in_order : (db : List Table) → IsDatabase db → (q : Query) → FitsDatabase q db → (F : ℕ) → F < length q.atoms → IsStrictlySortedBy (block_cmp (atom_key q F)) (rows_of q (stored db) F)
-in_order db valid q fits F l = subst (λ key. IsStrictlySortedBy (block_cmp key) (rows_of q (stored db) F)) (sym (fits.keyed F l)) (elim (slice_get_cases db t).1 [ inl h ↦ at h.0 h.2 (t, h.1, h.3) | inr h ↦ absurd (omega (arith, inside, h.0)) ])
-  where
-    t : ℕ
-    t = (atom_at q F).table
-
-    inside : t < length db
-    inside = fits.there F l
-
-    at : (table : Table) → slice_get db t ≡ Some table → Contains db table → IsStrictlySortedBy (block_cmp (get_or (keys_of db) t [])) (get_or (stored db) t [])
-    at table here within =
-        subst (λ key. IsStrictlySortedBy (block_cmp key) (get_or (stored db) t [])) (sym (key-at db t table here))
-        (subst (λ rows. IsStrictlySortedBy (block_cmp table.schema.key) rows) (sym (rows-at db t table here)) (valid.each table within).in_order)
-
 pub made_exists : MadeExists
-made_exists db q row plan valid fits inside holds = exists q (stored db) row (in_order db valid q fits) plan [] inside holds
+made_exists db q row plan valid fits inside holds = exists q (stored db) row (rows-in_order db q valid fits) plan [] inside holds
 
 pub made_passes : MadePasses
 made_passes db q row plan nodes valid fits long planned made =
@@ -207,7 +154,7 @@ made_passes db q row plan nodes valid fits long planned made =
       record {
         long = long;
         once = record { inside = inside; all = plan-all q (whole q) plan order; apart = plan-distinct q plan (whole q) order };
-        tree = tree q (stored db) row (in_order db valid q fits) plan [] inside nodes made;
+        tree = tree q (stored db) row (rows-in_order db q valid fits) plan [] inside nodes made;
         alike = λ a b ma mb. alike q (stored db) row a b (are_in q (stored db) row plan [] nodes made a ma) (are_in q (stored db) row plan [] nodes made b mb);
       },
       λ n m x y mx.

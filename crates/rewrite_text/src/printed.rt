@@ -44,7 +44,11 @@ fn add_head(
 }
 
 /// Adds the blocks of the tree that a plan makes for a row.
-fn add_blocks<'x>(course: &Course<'x>, row: &Row, draft: &mut Draft) -> Result<(), Fail<TooLong>>
+fn add_blocks<'x>(
+    course: &Course<'x, '_>,
+    row: &Row,
+    draft: &mut Draft,
+) -> Result<(), Fail<TooLong>>
     requires holds { HoldsOver course.now.setting.bound.now.db.now course.now.setting.bound.now.query.now row.now course.now.order.now }
     requires between { IsBetween draft.old }
     ensures made { OnOk result (AddsTree course.now.setting.bound.now.db.now course.now.setting.bound.now.query.now row.now [] course.now.order.now draft.old draft.new) }
@@ -63,7 +67,7 @@ fn add_blocks<'x>(course: &Course<'x>, row: &Row, draft: &mut Draft) -> Result<(
 }
 
 /// Adds all statements.
-fn add_all(course: &Course<'_>, row: &Row, draft: &mut Draft) -> Result<(), Fail<TooLong>>
+fn add_all(course: &Course<'_, '_>, row: &Row, draft: &mut Draft) -> Result<(), Fail<TooLong>>
     requires holds { HoldsOver course.now.setting.bound.now.db.now course.now.setting.bound.now.query.now row.now course.now.order.now }
     requires line { draft.old.out.items ≡ first_line }
     requires between { IsBetween draft.old }
@@ -75,7 +79,7 @@ fn add_all(course: &Course<'_>, row: &Row, draft: &mut Draft) -> Result<(), Fail
 }
 
 /// The certificate of a row by the order of a plan.
-fn written(course: &Course<'_>, row: &Row) -> Result<Items<u8>, Fail<TooLong>>
+fn written(course: &Course<'_, '_>, row: &Row) -> Result<Items<u8>, Fail<TooLong>>
     requires holds { HoldsOver course.now.setting.bound.now.db.now course.now.setting.bound.now.query.now row.now course.now.order.now }
     ensures text { IfOk result (IsCertificate course.now.setting.bound.now.db.now course.now.setting.bound.now.query.now row.now course.now.order.now) }
     ensures over { IfErr result (RefusesBy (HasLongCertificate course.now.setting.bound.now.db.now course.now.setting.bound.now.query.now row.now course.now.order.now)) }

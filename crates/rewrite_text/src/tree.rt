@@ -49,7 +49,7 @@ pub fn add_nodes<'x>(
 /// The same of a tree whose first block is of the step's atom.
 #[cycle(nodes)]
 fn add_tree<'x>(
-    step: &Step<'x>,
+    step: &Step<'x, '_>,
     row: &'x Row,
     memo: &mut Memo,
     draft: &mut Draft,
@@ -63,7 +63,7 @@ fn add_tree<'x>(
 {
     let course = step.course;
     let bound = course.setting.bound;
-    match first_block(bound.db, step, row, memo) {
+    match first_block(step, row, memo) {
         Some(block) => {
             add_block(bound, step.atom, &block, draft)?;
             add_under(step, row, &block, memo, draft)
@@ -75,7 +75,7 @@ fn add_tree<'x>(
 /// The same of the trees under the rows of a block.
 #[cycle(nodes)]
 fn add_under<'x>(
-    step: &Step<'x>,
+    step: &Step<'x, '_>,
     row: &'x Row,
     block: &Rows<'_>,
     memo: &mut Memo,

@@ -12,8 +12,8 @@ invariant_of-step c =
     let underway = subst (IsUnderway course []) (plan-split course.order.now c.in-len1-up.len_at_least) (underway-starts course) in
     record { underway = underway; there = first-atom course [] _ _ underway }
 
-pub first_block-found-requires-clause-memo : goal.first_block-found-requires-clause-memo
-first_block-found-requires-clause-memo c = none-right c.args.course.now c.over-memo.result c.over-memo.ensures
+pub first_block-found-requires : goal.first_block-found-requires
+first_block-found-requires c = none-right c.args.course.now c.over-memo.result c.over-memo.ensures
 
 pub returns-in-len1-up : goal.returns-in-len1-up
 returns-in-len1-up c =
