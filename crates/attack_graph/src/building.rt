@@ -1,6 +1,6 @@
 //! The graph of attacks, a row for each atom: those that it attacks, and those whose key its own key derives.
 
-ghost use Rattle.std.specs.Prelude.{◌≡◌, ◌≢◌, ℕ, ◌<◌, ◌↔◌, IsTrue, length};
+ghost use Rattle.std.specs.Prelude.{◌≢◌, ℕ, ◌<◌, ◌↔◌, IsTrue, length};
 ghost use Rattle.cqa_model.specs.declared.limits.TheConstants.{MOST_ATOMS};
 ghost use Rattle.cqa_model.specs.Variables.{IsKeyVar, whole};
 ghost use Rattle.cqa_model.specs.Closures.{InClosure};

@@ -1,8 +1,8 @@
 //! What the trail makes of a clause.
 
-ghost use Rattle.std.specs.Prelude.{◌≡◌, ◌<◌, ◌≤◌, ◌+◌, ◌≢◌, length, Contains, MatchOption, true, false};
+ghost use Rattle.std.specs.Prelude.{◌≡◌, ◌<◌, ◌≢◌, length, Contains, MatchOption, true, false};
 ghost use Rattle.cnf_form.specs.Literals.{Denied, OthersDenied, literals};
-ghost use Rattle.search_trail.specs.Trail.{IsConsistent, At, held, AreTrailPlaces, AllInRange};
+ghost use Rattle.search_trail.specs.Trail.{IsConsistent, held, AreTrailPlaces, AllInRange};
 ghost use Rattle.cdcl.specs.Looks.{LookFinds, IsFreeLiteral, WatchesAre};
 
 use cnf_form::{Lit, Truth};

@@ -1,9 +1,9 @@
 //! The clauses of a formula, line by line.
 
-ghost use Rattle.std.specs.Prelude.{◌≡◌, ◌≤◌, ◌<◌, ◌^◌, ◌+◌, ℕ, length, IfOk, List, ◌∷◌, ◌++◌, MatchOption, Bool, true, false, Some, Err};
-ghost use Rattle.cnf_form.specs.Lines.{after_line, is_comment, line_of, tokens};
+ghost use Rattle.std.specs.Prelude.{◌≡◌, ◌<◌, ◌^◌, ◌+◌, ℕ, length, IfOk, List, ◌∷◌, ◌++◌, MatchOption, true, false, Some, Err};
+ghost use Rattle.cnf_form.specs.Lines.{after_line, line_of, tokens};
 ghost use Rattle.cnf_form.specs.Numbers.{signed_of};
-ghost use Rattle.cnf_form.specs.Formulas.{Token, content, is_lrat, tagged};
+ghost use Rattle.cnf_form.specs.Formulas.{Token, content, tagged};
 ghost use Rattle.cnf_form.specs.Reading.{Goes, ReadIs, outcome};
 
 use crate::scan::{Next, Signed, is_comment_line, is_lrat_line, next_number, skip_line};

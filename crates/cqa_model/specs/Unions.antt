@@ -1,11 +1,11 @@
 -- Unions of queries: a row is certain for one if every repair holds a witness of it for some part, which need not be the same part in each repair (certain answers to unions of conjunctive queries; Grahne and Mendelzon, ICDT 1999).
-use Rattle.std.specs.Prelude.{◌≡◌, ◌<◌, ◌≤◌, ◌↔◌, ℕ, List, length, Contains}
+use Rattle.std.specs.Prelude.{◌≡◌, ◌<◌, ◌≤◌, ◌↔◌, List, length, Contains}
 use Rattle.std.specs.List.Sorted.{IsStrictlySortedBy}
 use Rattle.cqa_value.specs.declared.value.Value.{Value}
 use Rattle.cqa_value.specs.Values.{row_cmp}
 use Rattle.cqa_model.specs.declared.query.Query.{Query}
 use Rattle.cqa_model.specs.declared.limits.TheConstants.{MOST_SELECTS}
-use Rattle.cqa_model.specs.Database.{Table, stored}
+use Rattle.cqa_model.specs.Database.{Table}
 use Rattle.cqa_model.specs.Repairs.{IsRepair}
 use Rattle.cqa_model.specs.Query.{IsWitness, FitsDatabase}
 use Rattle.cqa_model.specs.Certain.{IsCandidate}

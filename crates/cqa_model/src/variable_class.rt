@@ -1,6 +1,6 @@
 //! The variables of a query, by the class of each column.
 
-ghost use Rattle.std.specs.Prelude.{ℕ, ◌<◌, All};
+ghost use Rattle.std.specs.Prelude.{◌<◌, All};
 ghost use Rattle.cqa_model.specs.declared.limits.TheConstants.{COLUMN_NUMBERS};
 
 use crate::naming::number_of;

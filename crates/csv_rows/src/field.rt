@@ -1,6 +1,6 @@
 //! Fields as values, and values as fields.
 
-ghost use Rattle.std.specs.Prelude.{◌≡◌, ◌++◌, ◌∷◌, [], IfOk, OnOk, OnErr, MatchOption};
+ghost use Rattle.std.specs.Prelude.{◌≡◌, ◌++◌, ◌∷◌, [], IfOk, OnOk, MatchOption};
 ghost use Rattle.cqa_value.specs.declared.value.Value.{Value as Cell};
 ghost use Rattle.csv.specs.Records.{fields_of, partial_of};
 ghost use Rattle.cqa_value.specs.Valid.{IsValidValue};

@@ -1,6 +1,6 @@
 //! Records as rows, and rows as records.
 
-ghost use Rattle.std.specs.Prelude.{◌≡◌, ◌≤◌, All, List, IfOk, OnOk, MatchOption, length, map};
+ghost use Rattle.std.specs.Prelude.{◌≡◌, ◌≤◌, List, IfOk, OnOk, MatchOption, length, map};
 ghost use Rattle.cqa_value.specs.declared.row.TheConstants.{MOST_COLUMNS};
 ghost use Rattle.cqa_value.specs.declared.value.Value.{Value as Cell};
 ghost use Rattle.csv.specs.Records.{fields_of};

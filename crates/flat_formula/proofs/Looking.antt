@@ -1,5 +1,5 @@
 -- Looks at a clause, literal by literal, and what they say of an assignment.
-use Rattle.std.proofs.Common.{◌≡◌, ℕ, ◌<◌, ◌+◌, ◌⊎◌, inl, inr, Bool, true, false, List, [], ◌∷◌, ◌++◌, length, take, get_or, refl, sym, ◌∙◌, ap, subst, arith, Contains}
+use Rattle.std.proofs.Common.{◌≡◌, ℕ, ◌<◌, ◌+◌, ◌⊎◌, inl, inr, Bool, true, false, List, [], ◌∷◌, ◌++◌, length, take, get_or, refl, sym, ◌∙◌, ap, subst}
 use Rattle.std.proofs.lemmas.List.{take_more}
 use Rattle.std.proofs.lemmas.List.Elements.{Contains-push, Contains-push_cases, Contains-append_left}
 use Rattle.cnf_form.specs.declared.formula.Lit.{Lit}
@@ -8,7 +8,7 @@ use Rattle.cnf_form.specs.declared.formula.Truth.TheVariants.{True, False, Open}
 use Rattle.cnf_form.specs.Literals.{Satisfies, SatisfiesAll, MakesTrue}
 use Rattle.flat_formula.specs.declared.look.Look.{Look}
 use Rattle.flat_formula.specs.declared.look.Look.TheVariants.{Holds, Loose, Forces, Fails}
-use Rattle.flat_formula.specs.Looks.{truth_at, signed, lit_truth, IsOf, Agrees, HasTrue, HaveTrue, IsLook}
+use Rattle.flat_formula.specs.Looks.{truth_at, signed, lit_truth, IsOf, Agrees, HaveTrue, IsLook}
 
 abbrev pub none : Lit
 none = record { var = 0; positive = false }

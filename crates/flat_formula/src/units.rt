@@ -1,6 +1,6 @@
 //! Unit propagation over truth values, clause by clause.
 
-ghost use Rattle.std.specs.Prelude.{◌≡◌, ◌≢◌, ◌<◌, ℕ, Bool, length, List, Contains};
+ghost use Rattle.std.specs.Prelude.{◌≡◌, ◌≢◌, ◌<◌, ℕ, Bool, length};
 ghost use Rattle.cnf_form.specs.Literals.{Satisfies, SatisfiesAll};
 ghost use Rattle.flat_formula.specs.Looks.{Agrees, AreAllBelow, AreBelow, HasTrue, HaveTrue, IsSet};
 

@@ -1,6 +1,6 @@
 //! Which of the atoms that none attacks is best taken next.
 
-ghost use Rattle.std.specs.Prelude.{◌≡◌, ◌<◌, length};
+ghost use Rattle.std.specs.Prelude.{◌<◌, length};
 ghost use Rattle.cqa_model.specs.declared.limits.TheConstants.{MOST_ATOMS};
 ghost use Rattle.key_closure.specs.Sets.{HasAtom};
 

@@ -15,7 +15,7 @@ pub struct Named<'q> {
 }
 
 impl Named<'_> {
-    ghost use Rattle.std.specs.Prelude.{◌≡◌, ℕ, ◌<◌, ◌↔◌, IsTrue, MatchOption, length};
+    ghost use Rattle.std.specs.Prelude.{ℕ, ◌<◌, ◌↔◌, IsTrue, MatchOption, length};
     ghost use Rattle.cqa_model.specs.declared.limits.TheConstants.{COLUMN_NUMBERS};
     ghost use Rattle.cqa_model.specs.Query.{atom_at, atom_key};
     ghost use Rattle.cqa_model.specs.Variables.{IsKeyVar, IsVar, after as view_after};

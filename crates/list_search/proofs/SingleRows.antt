@@ -4,7 +4,6 @@ use Rattle.std.proofs.Common.{◌*◌, ◌≡◌, ℕ, zero, suc, ◌<◌, ◌�
 use Rattle.std.specs.List.Sorted.{IsStrictlySortedBy}
 use Rattle.std.proofs.lemmas.Option.{get_or_from_slice_get, slice_get_within, slice_get-get_or, same_Some}
 use Rattle.std.proofs.lemmas.Bool.{cases_lt}
-use Rattle.std.proofs.lemmas.List.Elements.{Contains-get_or}
 use Rattle.cqa_value.proofs.Words.{Contains-slice_get, cases_next}
 use Rattle.row_lists.specs.declared.span.Span.{Span}
 use Rattle.row_lists.specs.Clauses.{Variable, variable_cmp}

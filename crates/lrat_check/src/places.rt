@@ -1,7 +1,6 @@
 //! Where the clause of each id stands.
 
-ghost use Rattle.std.specs.Prelude.{◌≡◌, ◌≢◌, ℕ, ◌≤◌, ◌<◌, OnOk, OnErr, Some, None, true, false, length};
-ghost use Rattle.std.specs.Ordering.{nat_cmp};
+ghost use Rattle.std.specs.Prelude.{◌≡◌, ◌≢◌, ℕ, ◌<◌, OnOk, OnErr, Some, None, true, false};
 ghost use Rattle.std.specs.BTreeMap.{get};
 ghost use Rattle.lrat_check.specs.Places.{near_at, place_of, with_place, without_place};
 

@@ -1,9 +1,8 @@
 //! Reads logs.
 
-ghost use Rattle.std.specs.Prelude.{◌≡◌, ◌≢◌, [], ◌∷◌, ◌<◌, ◌^◌, ◌++◌, IfOk, OnOk, MatchOption, None, Some, List, option_map};
+ghost use Rattle.std.specs.Prelude.{◌≡◌, ◌≢◌, [], ◌<◌, ◌^◌, ◌++◌, IfOk, OnOk, MatchOption, None, Some, option_map};
 ghost use Rattle.cqa_value.specs.declared.memory.Fail.TheVariants.{Refused};
 ghost use Rattle.cnf_form.specs.declared.fault.Part.TheVariants as part;
-ghost use Rattle.cnf_form.specs.declared.log.Step.{Step as LogStep};
 ghost use Rattle.cnf_form.specs.Lines.{after_line, line_of, tokens};
 ghost use Rattle.cnf_form.specs.Formulas.{literal};
 ghost use Rattle.cnf_form.specs.Numbers.{without_sign};

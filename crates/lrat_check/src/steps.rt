@@ -1,6 +1,6 @@
 //! Steps, one by one.
 
-ghost use Rattle.std.specs.Prelude.{◌≡◌, ℕ, IfOk, true, false, Contains, [], ◌∷◌};
+ghost use Rattle.std.specs.Prelude.{◌≡◌, IfOk, true, false};
 ghost use Rattle.cnf_form.specs.Logs.{top_after, added};
 ghost use Rattle.lrat_check.specs.Marks.{AllOpen};
 ghost use Rattle.lrat_check.specs.Store.{live_of};

@@ -3,7 +3,7 @@
 ghost use Rattle.std.specs.Prelude.{◌≡◌, ◌++◌, ◌∷◌, [], IfOk, OnOk, Some, codes};
 ghost use Rattle.std.specs.List.{flat_map};
 ghost use Rattle.cnf_form.specs.Writing.{clause_bytes};
-ghost use Rattle.lrat_check.specs.Writing.{first_of, hint_bytes, id_bytes, log_bytes, step_line, used_after, with_id, with_ids};
+ghost use Rattle.lrat_check.specs.Writing.{hint_bytes, id_bytes, log_bytes, step_line, used_after, with_id, with_ids};
 
 use cnf_form::{Clause, Log, Step, clause_text};
 use cqa_value::NoMemory;

@@ -1,7 +1,7 @@
 //! The formula of a row of a pair over its full blocks: one of each full block's rows, and not both rows of a witness whose rows
 //! are in full blocks. A repair keeps out of each other witness by a row that is in none, so the formula decides the row.
 
-ghost use Rattle.std.specs.Prelude.{◌≡◌, ◌+◌, ◌-◌, ◌<◌, ◌≤◌, ◌↔◌, ◌^◌, suc, List, Contains, IfOk, length, map};
+ghost use Rattle.std.specs.Prelude.{◌≡◌, ◌+◌, ◌-◌, ◌<◌, ◌≤◌, ◌↔◌, ◌^◌, suc, Contains, IfOk, length, map};
 ghost use Rattle.cqa_model.specs.Certain.{IsCertain};
 ghost use Rattle.cnf_form.specs.Literals.{literals};
 ghost use Rattle.join_access.specs.Listing.{names_of};

@@ -1,11 +1,11 @@
 //! Tests that few rows are taken to meet, and atoms few blocks of which can hold: where there is such a test, and where a part
 //! holds in few contexts.
 
-ghost use Rattle.std.specs.Prelude.{◌≡◌, ◌++◌, ◌∷◌, ◌<◌, ◌||◌, [], IfOk, OnOk, if◌then◌else◌, flat_map, length, map, slice_index};
+ghost use Rattle.std.specs.Prelude.{◌≡◌, ◌++◌, ◌∷◌, ◌<◌, ◌||◌, [], IfOk, OnOk, if◌then◌else◌, length, map, slice_index};
 ghost use Rattle.std.specs.List.{filter, list_any, range_with_len};
 ghost use Rattle.cqa_model.specs.declared.query.Cond.{Cond as CondValue};
 ghost use Rattle.sql_steps.specs.declared.part.Part.{Part as PartValue};
-ghost use Rattle.sql_steps.specs.Variables.{has, variables_of};
+ghost use Rattle.sql_steps.specs.Variables.{has};
 ghost use Rattle.sql_steps.specs.Steps.{cell_of, fitted};
 ghost use Rattle.plan_sql.specs.Statement.{has_few, is_few_test, is_rare_test, is_test_elsewhere, is_tested_alone, is_tested_elsewhere, is_value_test, part_only, rare_only};
 

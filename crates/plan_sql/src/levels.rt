@@ -8,7 +8,7 @@ ghost use Rattle.sql_text.specs.declared.syntax.StepKind.TheVariants.{Holds as H
 ghost use Rattle.plan_sql.specs.declared.bounds.Bound.{Bound as BoundValue};
 ghost use Rattle.sql_steps.specs.declared.part.Part.{Part as PartValue};
 ghost use Rattle.sql_steps.specs.Variables.{ascending, key_variables, variables_of};
-ghost use Rattle.sql_steps.specs.Steps.{are_single, block_group, context_group, hangs, rows_of_atom};
+ghost use Rattle.sql_steps.specs.Steps.{are_single, block_group, context_group, rows_of_atom};
 ghost use Rattle.plan_sql.specs.Statement.{behind_steps, block_of, block_steps, by_block, context_of, few_step, guard_for, is_guarded, is_value_test, keys_in, level_steps, looked_steps, step, with_level};
 
 use crate::bounds::{Bound, keys_in};

@@ -1,6 +1,6 @@
 //! The steps that look for the contexts of an atom's blocks, in the rows of atoms before it.
 
-ghost use Rattle.std.specs.Prelude.{◌≡◌, ◌++◌, ◌∷◌, ◌<◌, [], IfOk, OnOk, All, Some, is_some, length};
+ghost use Rattle.std.specs.Prelude.{◌≡◌, ◌++◌, ◌∷◌, ◌<◌, [], IfOk, OnOk, All, is_some, length};
 ghost use Rattle.std.specs.Option.{unwrap_or};
 ghost use Rattle.sql_text.specs.declared.syntax.Body.TheVariants.{Distinct as DistinctBody};
 ghost use Rattle.sql_text.specs.declared.syntax.StepKind.TheVariants.{Rows as RowsKind};

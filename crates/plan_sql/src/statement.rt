@@ -1,13 +1,13 @@
 //! The steps of a plan, and its query.
 
-ghost use Rattle.std.specs.Prelude.{◌≡◌, ◌++◌, ◌+◌, ◌^◌, ◌∷◌, ◌<◌, ◌≤◌, [], IfOk, OnOk, All, length, map};
+ghost use Rattle.std.specs.Prelude.{◌≡◌, ◌+◌, ◌^◌, ◌∷◌, ◌<◌, ◌≤◌, [], IfOk, OnOk, All, length, map};
 ghost use Rattle.cqa_model.specs.Plan.{IsPlanOf};
 ghost use Rattle.sql_text.specs.declared.syntax.Child.{Child as ChildValue};
 ghost use Rattle.plan_sql.specs.declared.bounds.Bound.{Bound as BoundValue};
 ghost use Rattle.sql_text.specs.Named.{IsNamed};
 ghost use Rattle.plan_sql.specs.Laws.{IsExactSql, ShowsOnce};
 ghost use Rattle.sql_steps.specs.Shapes.{AreAtoms};
-ghost use Rattle.sql_steps.specs.Variables.{answer_variables, variables_of};
+ghost use Rattle.sql_steps.specs.Variables.{answer_variables};
 ghost use Rattle.sql_steps.specs.Steps.{cells_of, children_of, known_of, on_of};
 ghost use Rattle.plan_sql.specs.Statement.{last_select, made_behind, made_later, made_of, sql_of};
 

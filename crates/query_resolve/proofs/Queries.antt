@@ -15,7 +15,7 @@ use Rattle.cqa_model.specs.declared.query.Query.{Query}
 use Rattle.refusals.specs.declared.refusal.Refusal.TheVariants.{UnknownTable, SelfJoin, TypeMismatch, Limit}
 use Rattle.refusals.specs.declared.refusal.Place.TheVariants.{Condition}
 use Rattle.refusals.specs.declared.refusal.LimitKind.TheVariants.{Atoms, Answer}
-use Rattle.cqa_model.specs.Database.{Table, IsDatabase, kinds_of, column_kinds, keys_of}
+use Rattle.cqa_model.specs.Database.{Table, IsDatabase, column_kinds}
 use Rattle.cqa_model.specs.Shape.{IsAtom, IsQuery, IsInRange, columns_of, column_at, nth_atom}
 use Rattle.cqa_model.specs.Query.{KindsAgree, kind_at}
 use Rattle.cqa_model.proofs.Fitting.{strict-consistent}

@@ -1,6 +1,6 @@
 -- Ranges of aggregates over one table: what value an aggregate has, and between which ends it lies in every repair
 -- (Arenas and others, Scalar aggregation in inconsistent databases, Theoretical Computer Science 2003).
-use Rattle.std.specs.Prelude.{◌≡◌, ◌≢◌, ℕ, Bool, true, not, ◌&&◌, List, [], ◌∷◌, length, map, Contains, slice_index_or, ℤ, pos, ◌+ℤ◌, ◌≤ℤ◌}
+use Rattle.std.specs.Prelude.{◌≡◌, ◌≢◌, ℕ, Bool, true, not, ◌&&◌, List, [], ◌∷◌, length, Contains, slice_index_or, ℤ, pos, ◌+ℤ◌, ◌≤ℤ◌}
 use Rattle.std.specs.List.{filter}
 use Rattle.std.specs.List.Sorted.{IsStrictlySortedBy}
 use Rattle.std.specs.Ordering.{nat_cmp, is_lt, is_gt}

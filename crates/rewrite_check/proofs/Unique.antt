@@ -1,5 +1,5 @@
 -- At most one thing is said of bytes.
-use Rattle.std.proofs.Common.{◌≡◌, ◌⊎◌, inl, inr, ℕ, suc, true, List, [], ◌∷◌, ◌+◌, length, refl, ap, sym, ◌∙◌, subst}
+use Rattle.std.proofs.Common.{◌≡◌, inl, inr, ℕ, suc, true, List, [], ◌∷◌, ◌+◌, length, refl, ap, sym, ◌∙◌, subst}
 use Rattle.script_lex.specs.Scripts.{Statement as Part, StartsWith, HasNoStatement, Begins, IsSpace}
 use Rattle.script_lex.proofs.Statements.{starts_same}
 use Rattle.block_tree.specs.declared.cause.RewriteCheck.TheVariants.{Verified, BadText, BadBlock}
@@ -7,7 +7,7 @@ use Rattle.block_tree.specs.Trees.{PassesFor}
 use Rattle.block_tree.specs.Judging.{Judged}
 use Rattle.block_tree.proofs.Judging.{verified_is_passing, judged_once}
 use Rattle.rewrite_check.specs.declared.certificate.Certificate.{Certificate}
-use Rattle.rewrite_check.specs.Spelling.{Stage, Created, Ordered, LeadsOn, LeadsThrough, IsOrdered, StopsShort, SpellsCertificate, IsBadFrom}
+use Rattle.rewrite_check.specs.Spelling.{Stage, Created, Ordered, LeadsOn, LeadsThrough, StopsShort, SpellsCertificate, IsBadFrom}
 use Rattle.rewrite_check.specs.Laws.{ChecksOnce}
 use Rattle.rewrite_check.proofs.Once.{leads_once}
 

@@ -1,7 +1,6 @@
 //! From the text of a certificate to what it says.
 
 ghost use Rattle.std.specs.Prelude.{◌≡◌, ◌≤◌, [], IfOk, IfErr, length};
-ghost use Rattle.cqa_model.specs.Database.{Table};
 ghost use Rattle.cqa_model.specs.declared.limits.TheConstants.{LONGEST_INPUT};
 ghost use Rattle.block_tree.specs.declared.cause.RewriteCheck.TheVariants.{BadText};
 ghost use Rattle.rewrite_check.specs.Spelling.{Created, Ordered, SpellsCertificate, ChecksRewriting};

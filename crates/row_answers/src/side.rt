@@ -1,7 +1,6 @@
 //! A side of the possible rows of a query.
 
 ghost use Rattle.std.specs.Prelude.{◌↔◌, IsTrue, List, OnOk};
-ghost use Rattle.cqa_value.specs.declared.value.Value.{Value};
 ghost use Rattle.cqa_model.specs.declared.query.Query.{Query};
 ghost use Rattle.cqa_model.specs.Database.{Table};
 ghost use Rattle.cqa_model.specs.Certain.{IsCertain};

@@ -1,7 +1,7 @@
 //! The places that the rows of one table have in lists, in order.
 //! A place that several lists share stands there once.
 
-ghost use Rattle.std.specs.Prelude.{◌≡◌, ◌++◌, ◌↔◌, ◌⊎◌, ℕ, Contains, IfOk, List};
+ghost use Rattle.std.specs.Prelude.{◌↔◌, ◌⊎◌, ℕ, Contains, IfOk};
 ghost use Rattle.join_access.specs.Listing.{names_of};
 ghost use Rattle.row_lists.specs.Frames.{AreTablePlaces};
 ghost use Rattle.row_lists.specs.Lists.{name};

@@ -1,7 +1,7 @@
 //! The relevant blocks of lists, slot by slot, from the places of their rows.
 //! Their rows are numbered as they come: by slots, and those of one slot in block order.
 
-ghost use Rattle.std.specs.Prelude.{◌≡◌, ◌+◌, ◌*◌, ◌++◌, ◌<◌, ◌≤◌, List, IfOk, length};
+ghost use Rattle.std.specs.Prelude.{◌+◌, ◌*◌, ◌++◌, ◌<◌, ◌≤◌, List, IfOk, length};
 ghost use Rattle.cqa_model.specs.declared.limits.TheConstants.{MOST_ROWS};
 ghost use Rattle.join_access.specs.Listing.{names_of};
 ghost use Rattle.row_lists.specs.declared.span.Span.{Span as Run};

@@ -2,7 +2,7 @@
 //! The witnesses are gone through by the greatest numbers that hit them. One that isn't hit yet takes that one, so a number
 //! that is taken later hits no witness that a number was taken for.
 
-ghost use Rattle.std.specs.Prelude.{◌≡◌, ◌<◌, ◌↔◌, ℕ, [], IfOk, IsTrue, length, slice_index_or};
+ghost use Rattle.std.specs.Prelude.{◌<◌, ◌↔◌, ℕ, [], IfOk, IsTrue, length, slice_index_or};
 ghost use Rattle.std.specs.List.Sorted.{IsNonDecreasingBy};
 ghost use Rattle.rows_against.specs.Fewest.{AreFewest, AreLastHits, AreWide, HasHit, IsHitAmong, IsLastHit};
 

@@ -1,7 +1,7 @@
 //! The rows that are kept against a row, from all its witnesses and from a repair that holds none of them.
 
 ghost use Rattle.std.specs.Prelude.{◌≡◌, ◌<◌, ℕ, Contains, IfOk, length, map, slice_index_or};
-ghost use Rattle.join_access.specs.Listing.{names_of, no_name};
+ghost use Rattle.join_access.specs.Listing.{no_name};
 ghost use Rattle.repair_back.specs.Results.{AreStored};
 ghost use Rattle.repair_back.specs.Rejected.{AreRejectingRows};
 ghost use Rattle.rows_against.specs.Against.{IsAgainst};

@@ -1,7 +1,7 @@
 //! The block of a `copy`: whether a text has one, where it begins
 //! and which line ends it.
 
-ghost use Rattle.std.specs.Prelude.{◌≡◌, IsTrue, ◌↔◌, MatchOption};
+ghost use Rattle.std.specs.Prelude.{IsTrue, ◌↔◌, MatchOption};
 ghost use Rattle.script_lex.specs.ScriptParts.{SkipsAt, LinesSoFar, StandAt, BlockEndsAt, HasNoBlock};
 ghost use Rattle.script_lex.specs.Bytes.{Runs};
 ghost use Rattle.script_lex.specs.Scripts.{IsCopy, IsEndingLine};

@@ -1,7 +1,7 @@
 //! What is learnt from a conflict: the clause of the first unique implication point (Marques-Silva and Sakallah,
 //! 1996; Moskewicz and others, 2001), and the hints that show that it follows.
 
-ghost use Rattle.std.specs.Prelude.{◌≡◌, ◌<◌, ◌≤◌, ◌+◌, ℕ, List, length, OnOk, IfOk, true, reverse, [], pos, ◌++◌, ◌∷◌};
+ghost use Rattle.std.specs.Prelude.{◌≡◌, ◌<◌, ◌≤◌, ◌+◌, List, length, OnOk, IfOk, true, reverse, [], pos, ◌++◌, ◌∷◌};
 ghost use Rattle.cnf_form.specs.declared.formula.Lit.{Lit as LitValue};
 ghost use Rattle.cnf_form.specs.Literals.{literals};
 ghost use Rattle.search_trail.specs.Trail.{At, held, AllInRange};

@@ -1,7 +1,7 @@
 //! The implications of a trail: its literals, the clauses that forced them, and where each variable stands. An analysis of a
 //! conflict goes back over them.
 
-ghost use Rattle.std.specs.Prelude.{◌≡◌, ◌≤◌, ◌+◌, length};
+ghost use Rattle.std.specs.Prelude.{◌≤◌, ◌+◌, length};
 ghost use Rattle.std.proofs.Props.{props};
 ghost use Rattle.cnf_form.specs.Literals.{literals};
 ghost use Rattle.search_trail.specs.Trail.{held, AreTrailPlaces, AllInRange, AreAllInRange};

@@ -1,6 +1,6 @@
 //! The trail: the literals that are true, in the order in which they came, and where each variable stands on it.
 
-ghost use Rattle.std.specs.Prelude.{◌≡◌, ◌<◌, ◌≤◌, ◌+◌, ◌≢◌, length, Contains, OnOk, true, false, take, ◌++◌, ◌∷◌, [], ◌-◌};
+ghost use Rattle.std.specs.Prelude.{◌≡◌, ◌<◌, ◌+◌, length, Contains, OnOk, true, false, take, ◌++◌, ◌∷◌, [], ◌-◌};
 ghost use Rattle.cnf_form.specs.Literals.{Denied, literals};
 ghost use Rattle.search_trail.specs.Trail.{IsUnassigned, At, held, AreTrailPlaces, ValueIs, AllInRange};
 

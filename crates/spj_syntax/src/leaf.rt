@@ -2,7 +2,7 @@
 //! One that is out of its limits is read as a placeholder, since a fault of syntax behind it is told first;
 //! the parser then finds the first such token, and gives no statement.
 
-ghost use Rattle.std.specs.Prelude.{◌≡◌, ◌≤◌, ◌<◌, ◌++◌, ◌∷◌, slice_index, IfOk, IsTrue, ◌↔◌, length, take, drop, true};
+ghost use Rattle.std.specs.Prelude.{◌≡◌, ◌≤◌, ◌<◌, ◌∷◌, slice_index, IfOk, IsTrue, ◌↔◌, length, drop, true};
 ghost use Rattle.std.specs.Str.{IsUtf8};
 ghost use Rattle.script_lex.specs.declared.kinds.TokenKind.TheVariants as token;
 ghost use Rattle.script_lex.specs.Tokens.{IsToken};

@@ -1,11 +1,11 @@
 //! From the tokens of a text to its statement, or to the first token that no statement goes on with,
 //! or that is out of its limits.
 
-ghost use Rattle.std.specs.Prelude.{◌≡◌, ◌⊎◌, ◌≤◌, ◌-◌, ◌∷◌, [], All, IfOk, IfErr, OnOk, Err, MatchResult, MatchOption, IsTrue, ◌↔◌, length, drop, pos, codes, true, false};
+ghost use Rattle.std.specs.Prelude.{◌≡◌, ◌⊎◌, ◌≤◌, ◌-◌, ◌∷◌, [], All, IfOk, IfErr, OnOk, Err, MatchResult, MatchOption, IsTrue, length, drop, pos, codes, true, false};
 ghost use Rattle.cqa_value.specs.Literals.{are_digits, without_minus, integer_of};
 ghost use Rattle.cqa_value.specs.declared.memory.Fail.TheVariants.{NoMemory, Refused};
 ghost use Rattle.script_lex.specs.Tokens.{Spells, longest_text};
-ghost use Rattle.spj_syntax.specs.Lexemes.{Word, Number, lexeme, undoubled};
+ghost use Rattle.spj_syntax.specs.Lexemes.{Word, Number, lexeme};
 ghost use Rattle.spj_syntax.specs.Limits.{most_tokens};
 ghost use Rattle.spj_syntax.specs.Parsed.{AllLexemesFit, Fits, IsStatement, IsFirstUnfit, IsIntInRange, PlainFit, RefusesTokens, is_set, lexemes, place_of};
 ghost use Rattle.spj_syntax.specs.Reading.{IsReadable, IsUnfit, Parses, failure_of};

@@ -1,9 +1,8 @@
 //! The statements, each read by the shape that the grammar gives it.
 
-ghost use Rattle.std.specs.Prelude.{◌≡◌, ◌<◌, ◌≤◌, ◌∷◌, ◌++◌, [], length, IfOk, All, IsTrue, codes};
+ghost use Rattle.std.specs.Prelude.{◌≡◌, ◌<◌, ◌∷◌, [], length, IfOk, All, IsTrue, codes};
 ghost use Rattle.cqa_value.specs.Literals.{integer_of, are_digits, without_minus};
-ghost use Rattle.spj_syntax.specs.Lexemes.{Word, Number, Mark};
-ghost use Rattle.spj_syntax.specs.Limits.{most_items};
+ghost use Rattle.spj_syntax.specs.Lexemes.{Word, Number};
 ghost use Rattle.spj_syntax.specs.Reading.{Reads, Took, body_tokens};
 ghost use Rattle.spj_syntax.specs.Written.{strict_tokens, key_tokens, change_tokens, HasKey, statement_tokens, IsSmall};
 ghost use Rattle.cqa_model.specs.Valid.{IsName};

@@ -1,11 +1,11 @@
 //! What is known of variables, and the comparisons by which a row fits it.
 
-ghost use Rattle.std.specs.Prelude.{◌≡◌, ◌++◌, ◌∷◌, ◌<◌, ◌≤◌, ℕ, [], IfOk, OnOk, All, length};
+ghost use Rattle.std.specs.Prelude.{◌≡◌, ◌++◌, ◌<◌, IfOk, OnOk, All, length};
 ghost use Rattle.cqa_model.specs.declared.query.Cond.{Cond as SpecCond};
 ghost use Rattle.cqa_model.specs.Query.{atom_at};
 ghost use Rattle.std.specs.List.{flat_map};
 ghost use Rattle.sql_steps.specs.Variables.{all_below};
-ghost use Rattle.sql_steps.specs.Steps.{cell_of, cells_of, find, fit_on, held, see, see_all, test_at, tests_at};
+ghost use Rattle.sql_steps.specs.Steps.{cell_of, cells_of, find, fit_on, held, see, see_all, test_at};
 
 use crate::lists::has;
 use crate::shape::Shape;

@@ -1,6 +1,6 @@
 //! The blocks of an atom, as groups joined with parts.
 
-ghost use Rattle.std.specs.Prelude.{◌≡◌, ◌<◌, ◌≤◌, ◌∷◌, [], Some, IfOk, length};
+ghost use Rattle.std.specs.Prelude.{◌≡◌, ◌<◌, ◌≤◌, IfOk, length};
 ghost use Rattle.sql_text.specs.declared.syntax.Alias.TheVariants.{Context as ContextAlias};
 ghost use Rattle.sql_text.specs.declared.syntax.Source.TheVariants.{Step as Earlier};
 ghost use Rattle.sql_steps.specs.Variables.{all_below};

@@ -1,9 +1,8 @@
 //! The rows of an atom: the comparisons by which they are in a block and fit, and their select.
 
-ghost use Rattle.std.specs.Prelude.{◌≡◌, ◌++◌, ◌∷◌, ◌<◌, [], IfOk, OnOk, flat_map, length, map};
+ghost use Rattle.std.specs.Prelude.{◌≡◌, ◌++◌, ◌∷◌, ◌<◌, [], IfOk, OnOk, length, map};
 ghost use Rattle.sql_text.specs.declared.syntax.Child.{Child as ChildValue};
-ghost use Rattle.sql_steps.specs.declared.part.Part.{Part as PartValue};
-ghost use Rattle.sql_steps.specs.Steps.{cells_of, children_of, fit_on, fitted, keyed, known_of, member, on_of, others_of, part_source, rows_of_atom};
+ghost use Rattle.sql_steps.specs.Steps.{cells_of, children_of, fit_on, fitted, keyed, known_of, member, on_of, others_of, rows_of_atom};
 
 use crate::children::{Joined, joined_parts};
 use crate::fitting::{Fitting, Known, cells_of};

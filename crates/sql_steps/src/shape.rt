@@ -1,6 +1,6 @@
 //! A query with the variables of its columns.
 
-ghost use Rattle.std.specs.Prelude.{◌≡◌, ◌<◌, IfOk, List, length};
+ghost use Rattle.std.specs.Prelude.{◌≡◌, ◌<◌, IfOk, length};
 ghost use Rattle.cqa_model.specs.Query.{atom_at, atom_key};
 ghost use Rattle.cqa_model.specs.Naming.{AreVariables};
 ghost use Rattle.sql_steps.specs.Shapes.{AreNamed};

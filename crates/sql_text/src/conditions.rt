@@ -1,7 +1,7 @@
 //! Appends sources, cells and conditions.
 
-ghost use Rattle.std.specs.Prelude.{◌≡◌, ◌++◌, ◌||◌, if◌then◌else◌, [], OnOk, codes, length};
-ghost use Rattle.sql_text.specs.Texts.{and_between, cell_text, column_of_text, conditions_text, cmp_at, cmp_text, cmps_text, column_text, is_there, listed_at, listed_text, only_at, only_text, onlys_text, source_text, sources_text, step_at, where_text};
+ghost use Rattle.std.specs.Prelude.{◌≡◌, ◌++◌, if◌then◌else◌, OnOk};
+ghost use Rattle.sql_text.specs.Texts.{and_between, cell_text, column_of_text, conditions_text, cmp_text, cmps_text, column_text, is_there, listed_at, listed_text, only_at, only_text, onlys_text, source_text, sources_text, where_text};
 
 use crate::places::{
     append_column_name, append_table_name, listed_at, only_at, step_name_at, variable_at,

@@ -1,9 +1,9 @@
 //! Appends the text of groups.
 
-ghost use Rattle.std.specs.Prelude.{◌≡◌, ◌++◌, ◌||◌, if◌then◌else◌, [], IfOk, OnOk, codes, length, map, not};
+ghost use Rattle.std.specs.Prelude.{◌≡◌, ◌++◌, ◌||◌, if◌then◌else◌, IfOk, OnOk};
 ghost use Rattle.std.specs.List.{list_all};
 ghost use Rattle.sql_text.specs.declared.syntax.Cell.{Cell as CellValue};
-ghost use Rattle.sql_text.specs.Texts.{all_led_text, and_between, apart_cells, by_text, cell_at, cell_text, child_at, child_text, children_text, cmps_text, fit_text, fits_text, group_cell_text, group_columns_text, group_fits_text, group_out_text, group_rest_text, group_sources, group_text, group_word, has_fits, having_text, is_by, is_there, kept_text, least_text, led_text, same_text, sames_text};
+ghost use Rattle.sql_text.specs.Texts.{all_led_text, and_between, apart_cells, by_text, cell_at, child_text, children_text, fit_text, fits_text, group_cell_text, group_columns_text, group_fits_text, group_out_text, group_rest_text, group_sources, group_text, group_word, has_fits, having_text, is_by, is_there, kept_text, least_text, led_text, same_text, sames_text};
 
 use crate::conditions::{append_cell, append_cmps, append_listed, append_sources, append_where};
 use crate::places::{cell_at, number_at};

@@ -1,7 +1,7 @@
 //! Appends the text of a query.
 
-ghost use Rattle.std.specs.Prelude.{◌≡◌, ◌++◌, ◌==◌, ◌<◌, if◌then◌else◌, [], OnOk, OnErr, codes};
-ghost use Rattle.sql_text.specs.Texts.{answer_text, answer_columns_text, answers_text, body_text, cell_at, columns_text, last_text, once_text, out_text, rest_text, select_text, select_word, sql_bytes, step_text, steps_text, step_at};
+ghost use Rattle.std.specs.Prelude.{◌≡◌, ◌++◌, ◌<◌, if◌then◌else◌, OnOk, OnErr};
+ghost use Rattle.sql_text.specs.Texts.{answer_text, answer_columns_text, answers_text, body_text, cell_at, columns_text, last_text, once_text, out_text, rest_text, select_text, select_word, sql_bytes, step_text, steps_text};
 
 use crate::conditions::{append_cell, append_sources, append_where};
 use crate::groups::{append_by, append_group};

@@ -1,6 +1,6 @@
 //! Appends the words of a query's text.
 
-ghost use Rattle.std.specs.Prelude.{◌≡◌, ◌++◌, ◌==◌, if◌then◌else◌, [], OnOk, codes};
+ghost use Rattle.std.specs.Prelude.{◌≡◌, ◌++◌, ◌==◌, if◌then◌else◌, [], OnOk};
 ghost use Rattle.std.specs.Fmt.{decimal};
 ghost use Rattle.sql_text.specs.Texts.{alias_text, and_between, is_there, kind_word, literal_text as literal_sql, one_text, op_text, quoted, step_name, variable_text};
 

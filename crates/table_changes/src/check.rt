@@ -1,8 +1,7 @@
 //! What is wrong with rows that are to be stored: the first fault in the order of rows and columns.
 //! Rows without one have valid values of the right kinds.
-ghost use Rattle.std.specs.Prelude.{◌≡◌, ◌<◌, ◌≤◌, ◌+◌, ◌^◌, IsNone, length};
+ghost use Rattle.std.specs.Prelude.{◌≡◌, ◌<◌, ◌+◌, ◌^◌, IsNone, length};
 ghost use Rattle.cqa_model.specs.Database.{kinds_of};
-ghost use Rattle.cqa_value.specs.Values.{kind_of};
 ghost use Rattle.cqa_value.specs.Valid.{IsValidValue, IsValidRow};
 ghost use Rattle.refusals.specs.Kinds.{cell_fault, kind_fault, row_fault, rows_fault};
 ghost use Rattle.table_blocks.specs.Tables.{AreValidRows};

@@ -1,4 +1,4 @@
-use Rattle.std.proofs.Common.{◌≡◌, ◌++◌, ◌+◌, ◌∙◌, ap}
+use Rattle.std.proofs.Common.{◌++◌, ◌+◌, ◌∙◌, ap}
 use Rattle.case_maker.specs.Scripts.{lines_of}
 use Rattle.case_maker.proofs.Ranges.{lines_more}
 use Rattle.case_maker.proofs.lines.append_part.Goals as goal

@@ -1,4 +1,4 @@
-use Rattle.std.proofs.Common.{◌∙◌, length, ap, sym}
+use Rattle.std.proofs.Common.{◌∙◌, length, ap}
 use Rattle.flat_formula.proofs.Turning.{are_below}
 use Rattle.flat_formula.proofs.guess.choose.Goals as goal
 

@@ -1,7 +1,6 @@
-use Rattle.std.proofs.Common.{◌≡◌, ◌∙◌, List, length, ap, sym, subst, take, rules, arith}
+use Rattle.std.proofs.Common.{◌∙◌, length, subst, rules}
 use Rattle.std.proofs.lemmas.List.{take_all}
 use Rattle.cqa_value.proofs.Words.{Contains-slice_get}
-use Rattle.cnf_form.specs.declared.formula.Lit.{Lit}
 use Rattle.flat_formula.specs.Looks.{HaveTrue}
 use Rattle.flat_formula.proofs.Turning.{are_below, true-next}
 use Rattle.flat_formula.proofs.units.pass.Goals as goal

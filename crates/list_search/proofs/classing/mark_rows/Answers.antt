@@ -1,4 +1,4 @@
-use Rattle.std.proofs.Common.{ℕ, List, [], ◌∷◌, true, false, eqb, ◌≡◌, ◌+◌, ◌-◌, ◌<◌, ◌^◌, ◌⊎◌, inl, inr, ◌∙◌, Some, suc, length, get_or, take, refl, sym, ap, subst, arith, Contains, slice_get}
+use Rattle.std.proofs.Common.{ℕ, List, [], ◌∷◌, true, false, eqb, ◌≡◌, ◌+◌, ◌-◌, ◌<◌, ◌⊎◌, inl, inr, ◌∙◌, Some, suc, length, get_or, take, refl, sym, subst, arith, Contains, slice_get}
 use Rattle.std.proofs.lemmas.Bool.Decides.{nat_tests}
 use Rattle.std.proofs.lemmas.Option.{slice_get_within}
 use Rattle.std.proofs.lemmas.List.{take_all, take_more}

@@ -1,4 +1,4 @@
-use Rattle.std.proofs.Common.{rules, ℕ, ◌⊎◌, Bool, List, is_some, IfSome, ◌≡◌, ◌∙◌, ◌∷◌, ◌<◌, ◌≤◌, true, false, [], length, get_or, refl, ap, sym, subst, arith, true≢false}
+use Rattle.std.proofs.Common.{rules, ℕ, ◌⊎◌, Bool, List, is_some, IfSome, ◌∙◌, ◌∷◌, ◌<◌, ◌≤◌, true, false, [], length, get_or, refl, ap, sym, subst, arith, true≢false}
 use Rattle.std.proofs.lemmas.Bool.{false≢true}
 use Rattle.std.proofs.lemmas.Option.{get_or_from_slice_get}
 use Rattle.std.proofs.Math.Logic.{∥∥₁_elim}

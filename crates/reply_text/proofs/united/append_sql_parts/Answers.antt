@@ -1,4 +1,4 @@
-use Rattle.std.proofs.Common.{◌≡◌, ◌++◌, ◌∙◌, List, ℕ, slice_index_or, ap}
+use Rattle.std.proofs.Common.{◌≡◌, ◌∙◌, slice_index_or}
 use Rattle.std.proofs.lemmas.List.{get_or_default}
 use Rattle.reply_text.specs.Texts.{sql_part_text}
 use Rattle.reply_text.proofs.Pieces.{one_more_numbered}

@@ -1,8 +1,6 @@
-use Rattle.std.proofs.Common.{◌≡◌, ◌<◌, ◌≤◌, ◌∙◌, Some, ap, sym, subst, refl, List, length, get_or, map, slice_get, rules, arith, Contains}
+use Rattle.std.proofs.Common.{◌≡◌, ◌<◌, ◌≤◌, ◌∙◌, Some, ap, sym, subst, List, length, slice_get}
 use Rattle.std.specs.List.{slice_range}
 use Rattle.cnf_form.specs.declared.formula.Lit.{Lit}
-use Rattle.flat_formula.specs.declared.flat.Stretch.{Stretch}
-use Rattle.flat_formula.specs.Flat.{clauses_of, AreWithin}
 use Rattle.flat_formula.proofs.Stretches.{clause-at, within-at}
 use Rattle.flat_formula.proofs.flat.FlatFormula.clause.Goals as goal
 
