@@ -8,7 +8,7 @@ ghost use Rattle.list_search.specs.Classing.{AreBlockLists, AreRange, HasClass, 
 
 use crate::classing::Classed;
 use cqa_value::{Items, NoMemory};
-use rising_numbers::put_in_order;
+use join_access::put_in_order;
 use row_lists::numbering::{Numbering, find_span};
 use row_lists::span::Span;
 use std::alloc::Global;

@@ -13,8 +13,8 @@ use crate::bound_parts::BoundParts;
 use crate::spoken::spoken_columns;
 use cqa_model::Query;
 use cqa_value::{Items, NoMemory};
+use join_access::put_in_order;
 use list_search::Scope;
-use rising_numbers::put_in_order;
 use row_lists::Frame;
 use std::alloc::Global;
 

@@ -16,8 +16,7 @@ use crate::span::Span;
 use cnf_form::{Clause, Lit};
 use cqa_model::RowId;
 use cqa_value::{Items, NoMemory};
-use join_access::Witness;
-use rising_numbers::put_in_order;
+use join_access::{Witness, put_in_order};
 use std::alloc::Global;
 
 /// Puts the literals of a block's clause into a list: one of its rows is kept.

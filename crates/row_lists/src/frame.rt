@@ -9,7 +9,7 @@ ghost use Rattle.row_lists.specs.Formulas.{IsFrame};
 ghost use Rattle.row_lists.specs.Frames.{AreSlots};
 
 use cqa_value::{Items, NoMemory};
-use rising_numbers::put_in_order;
+use join_access::put_in_order;
 use std::alloc::Global;
 use table_blocks::Database;
 

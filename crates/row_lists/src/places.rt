@@ -8,8 +8,7 @@ ghost use Rattle.row_lists.specs.Lists.{name};
 
 use cqa_model::RowId;
 use cqa_value::NoMemory;
-use join_access::Witness;
-use rising_numbers::put_in_order;
+use join_access::{Witness, put_in_order};
 use std::alloc::Global;
 
 /// Adds the places of the rows of a table in one list.

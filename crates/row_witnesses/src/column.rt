@@ -7,8 +7,7 @@ ghost use Rattle.join_access.specs.declared.witness.Witness.{Witness as Named};
 ghost use Rattle.row_witnesses.specs.Columns.{place_at, AreColumn, AreColumnsOfAtoms};
 
 use cqa_value::{Items, NoMemory};
-use join_access::Witness;
-use rising_numbers::put_in_order;
+use join_access::{Witness, put_in_order};
 use std::alloc::Global;
 
 /// The place of the row of an atom in a witness.
