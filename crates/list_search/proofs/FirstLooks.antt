@@ -1,7 +1,7 @@
 -- What is found out of the clauses of lists says whether every repair keeps one whole.
 use Rattle.std.proofs.Common.{◌≡◌, ℕ, suc, ◌<◌, ◌+◌, inl, inr, List, length, map, sym, ap, subst, arith, Contains, Bool}
 use Rattle.std.proofs.lemmas.List.Elements.{Contains-append_cases}
-use Rattle.cqa_value.proofs.Words.{Contains-from_map, in_range}
+use Rattle.cqa_value.proofs.Words.{Contains-from_map, all_zip_right, in_range}
 use Rattle.cqa_model.specs.declared.query.RowId.{RowId}
 use Rattle.cqa_model.specs.Database.{Table, IsDatabase}
 use Rattle.cnf_form.specs.declared.formula.Lit.{Lit}
@@ -10,7 +10,6 @@ use Rattle.flat_formula.specs.Looks.{AreAllBelow}
 use Rattle.flat_formula.specs.declared.guess.Found.{Found}
 use Rattle.flat_formula.specs.declared.guess.Found.TheVariants.{Satisfiable, Unsatisfiable, Unclear}
 use Rattle.flat_formula.specs.Findings.{FoundIs}
-use Rattle.join_access.proofs.Naming.{zip-right}
 use Rattle.row_lists.specs.declared.span.Span.{Span}
 use Rattle.row_lists.specs.Clauses.{positive, negative}
 use Rattle.row_lists.specs.Lists.{AreStored, IsForced}
@@ -44,7 +43,7 @@ all_below frame spans m lists cs based h c mc l ml = elim (Contains-append_cases
 
     of_list : ((ns : List ℕ) × Contains h.numbers ns × (map negative ns ≡ c)) → l.var < m + 1
     of_list (ns, i, e) =
-        let z = zip-right (AreNumbersOf frame (variables_of_spans spans)) lists h.numbers h.numbered ns i in
+        let z = all_zip_right (AreNumbersOf frame (variables_of_spans spans)) lists h.numbers ns h.numbered i in
         let n = Contains-from_map negative ns l (subst (λ d. Contains d l) (sym e) ml) in
         let x = ((z.2.exactly n.0).0 n.1).2 in
         let b = number_below (variables_of_spans spans) n.0 x.0 x.1 in

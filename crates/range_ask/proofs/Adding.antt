@@ -7,13 +7,12 @@ use mir.Syntax.{w64, w128}
 use Rattle.std.proofs.lemmas.Int.{ints, to_z-of_z}
 use Rattle.std.proofs.lemmas.List.Elements.{Contains-get_or}
 use Rattle.cqa_value.specs.declared.value.Value.{Value}
-use Rattle.cqa_value.proofs.Words.{clash, cases_next}
+use Rattle.cqa_value.proofs.Words.{all_zip_push, cases_next, clash}
 use Rattle.range_ask.specs.declared.total.Total.{Total}
 use Rattle.range_ask.specs.Picks.{IsCheapest, IsDearest}
 use Rattle.range_ask.specs.Finding.{row_in_block}
 use Rattle.range_ask.specs.Walking.{IsWithinBlocks}
 use Rattle.range_ask.specs.Tallying.{IsSureOf, NoneOf, IsEither, AtMostℤ, AtLeastℤ, IsSum, AreSums, IsOpenPart, AreAdding}
-use Rattle.join_access.proofs.Naming.{zip-push}
 use Rattle.range_ask.proofs.Chosen.{place}
 use Rattle.range_ask.proofs.Walked.{total-push, within-more}
 
@@ -24,7 +23,7 @@ sum-more : (R : List (List Value) → List Value → Type 0) (f : List Value →
     IsSum R f front n → R block y → IsWithinBlocks 1 (f y) → m ≡ n +ℤ f y → IsSum R f (front ++ block ∷ []) m
 sum-more R f front block n m y h r small e = record {
   picks = h.picks ++ y ∷ [];
-  picked = zip-push R front h.picks block y h.picked r;
+  picked = all_zip_push R front h.picks block y h.picked r;
   is = e ∙ (ap (λ k. k +ℤ f y) h.is ∙ sym (total-push f h.picks y));
   within = subst (λ k. IsWithinBlocks k m) (sym (length-append front (block ∷ []))) (within-more (length front) n (f y) m h.within small e);
 }

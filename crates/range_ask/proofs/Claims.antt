@@ -4,7 +4,7 @@ use Rattle.std.specs.Prelude.{ℤ, ◌≤ℤ◌}
 use Rattle.std.specs.List.{AllZip}
 use Rattle.std.proofs.lemmas.Int.{ints}
 use Rattle.cqa_value.specs.declared.value.Value.{Value}
-use Rattle.cqa_value.proofs.Words.{Contains-filter, clash}
+use Rattle.cqa_value.proofs.Words.{Contains-filter, all_zip_right, clash}
 use Rattle.cqa_model.specs.declared.aggregate.End.{End}
 use Rattle.cqa_model.specs.declared.aggregate.End.TheVariants.{Empty, Number, Held}
 use Rattle.cqa_model.proofs.Classic.{mem-nil}
@@ -15,7 +15,7 @@ use Rattle.range_ask.specs.Laws.{EndsAreOne}
 use Rattle.range_ask.specs.Ranges.{cell, meets, part, AtMost, IsLeastValue, IsGreatestValue, IsUpTo}
 use Rattle.range_ask.specs.Picks.{ArePicked, Before, IsExtreme, AvoidsFar, MeetsFar}
 use Rattle.range_ask.specs.Reaching.{as_end}
-use Rattle.join_access.proofs.Naming.{zip-left, zip-right}
+use Rattle.join_access.proofs.Naming.{zip-left}
 use Rattle.range_ask.proofs.Ordered.{at_most-both, before-trans}
 
 -- ---- ends are one
@@ -81,7 +81,7 @@ module _ (way : Way) (tests : List ColumnTest) (col : ℕ) where
         (w : List Value) × (o ≡ Some w) × Before way (cell x col) (cell w col)
     near-from h x (mx, all) o e =
         let px = of_part xs x mx in
-        let b = zip-right (AvoidsFar way (meets tests) col) blocks xs h x px.0 in
+        let b = all_zip_right (AvoidsFar way (meets tests) col) blocks xs x h px.0 in
         let y = zip-left (λ (c : List (List Value)) z. Contains c z) blocks ys picked b.0 b.1 in
         let near = b.2.else_near px.1 y.0 y.2 in
         reached x ys o y.0 (in_part ys y.0 y.1 near.0) near.1 e
@@ -91,7 +91,7 @@ module _ (way : Way) (tests : List ColumnTest) (col : ℕ) where
         (w : List Value) × (o ≡ Some w) × Before way (cell y col) (cell w col)
     far-from h o e y (my, all) =
         let py = of_part ys y my in
-        let b = zip-right (λ (c : List (List Value)) z. Contains c z) blocks ys picked y py.0 in
+        let b = all_zip_right (λ (c : List (List Value)) z. Contains c z) blocks ys y picked py.0 in
         let x = zip-left (MeetsFar way (meets tests) col) blocks xs h b.0 b.1 in
         let far = x.2.far y b.2 py.1 in
         reached y xs o x.0 (in_part xs x.0 x.1 far.0) far.1 e

@@ -7,7 +7,7 @@ use Rattle.std.proofs.lemmas.Map.Entries.{btree_map_get_place, place_from_lookup
 use Rattle.std.proofs.lemmas.Option.{slice_get-get_or}
 use Rattle.cqa_value.specs.declared.value.Value.{Value}
 use Rattle.cqa_value.specs.Values.{value_cmp, value_cmp_total, value_ties, value_decides}
-use Rattle.cqa_value.proofs.Words.{Contains-filter, Contains-map, Contains-slice_get, mem-nil}
+use Rattle.cqa_value.proofs.Words.{Contains-filter, Contains-map, Contains-slice_get, all_zip_right, mem-nil}
 use Rattle.cqa_model.specs.declared.aggregate.Goal.{Goal}
 use Rattle.cqa_model.specs.declared.limits.TheConstants.{MOST_ROWS}
 use Rattle.cqa_model.specs.Database.{Table}
@@ -20,7 +20,6 @@ use Rattle.range_ask.specs.Walking.{rows_of_blocks}
 use Rattle.range_ask.specs.Groups.{tests_with, group_values, IsGroup, HasMember, AreGroups}
 use Rattle.range_ask.specs.Tallying.{low_end, IsKnownGroup, IsWhole, AreTallied, IsEnded}
 use Rattle.join_access.specs.Deciding.{of_all}
-use Rattle.join_access.proofs.Naming.{zip-right}
 use Rattle.range_ask.proofs.Membership.{is-in, of-in}
 use Rattle.range_ask.proofs.Grouped.{group-range}
 
@@ -68,9 +67,9 @@ module _ (db : List Table) (table : ℕ) (goal : Goal) (tests : List ColumnTest)
   pub groups-are : (groups : List Group) → AllZip Ended map_of.entries groups → AreGroups db table goal tests col groups
   groups-are groups h =
       let values = same-values map_of.entries groups h in record {
-        ranges = of_all (IsGroup db table goal tests col) groups (λ g m. let e = zip-right Ended map_of.entries groups h g m in group-is e.0 g e.1 e.2);
+        ranges = of_all (IsGroup db table goal tests col) groups (λ g m. let e = all_zip_right Ended map_of.entries groups g h m in group-is e.0 g e.1 e.2);
         ascend = subst (IsStrictlySortedBy value_cmp) (sym values) ordered;
         whole = λ row m t. subst (λ vs. Contains vs (cell row col)) (sym values)
             (known-value (cell row col) row (subst (λ rs. Contains rs row) (sym parted.blocks_are.joined) m) (is-in tests col (cell row col) row t refl) (get value_cmp map_of (cell row col)) refl (tallied (cell row col)).0);
-        members = of_all (λ g. HasMember db table tests col g.value) groups (λ g m. let e = zip-right Ended map_of.entries groups h g m in member-is e.0 g e.1 e.2);
+        members = of_all (λ g. HasMember db table tests col g.value) groups (λ g m. let e = all_zip_right Ended map_of.entries groups g h m in member-is e.0 g e.1 e.2);
       }

@@ -7,7 +7,7 @@ use Rattle.std.proofs.lemmas.List.{append-nil}
 use Rattle.std.proofs.lemmas.List.Elements.{filter-append, Contains-get_or}
 use Rattle.std.proofs.lemmas.Grind.{flat_map-append}
 use Rattle.cqa_value.specs.declared.value.Value.{Value}
-use Rattle.cqa_value.proofs.Words.{clash, cases_next, Contains-filter}
+use Rattle.cqa_value.proofs.Words.{Contains-filter, all_zip_push, cases_next, clash}
 use Rattle.cqa_model.proofs.Classic.{mem-nil}
 use Rattle.range_ask.specs.declared.way.Way.{Way}
 use Rattle.range_ask.specs.declared.total.Turn.{Turn}
@@ -18,7 +18,6 @@ use Rattle.range_ask.specs.Finding.{row_in_block}
 use Rattle.range_ask.specs.Walking.{rows_of_blocks}
 use Rattle.range_ask.specs.Reaching.{IsIfMet}
 use Rattle.range_ask.specs.Tallying.{rows_so_far, IsSureOf, NoneOf, IsGroupReached, IsPeakSettled, IsPeaking, IsNearer, AreFar, Furthers}
-use Rattle.join_access.proofs.Naming.{zip-push}
 use Rattle.range_ask.proofs.Ordered.{before-turned}
 use Rattle.range_ask.proofs.Further.{row-first}
 
@@ -120,7 +119,7 @@ module _ (way : Way) (p : List Value → Bool) (col : ℕ) (sure : Bool) (front 
         same = o.number_is ∙ sym is
 
   reached-more : (row new : Option (List Value)) (y : List Value) → (r : IsGroupReached way p col front row) → AvoidsFar way p col block y → IsExtreme way col (filter p (r.picks ++ y ∷ [])) new → IsGroupReached way p col (front ++ block ∷ []) new
-  reached-more row new y r a x = record { picks = r.picks ++ y ∷ []; picked = zip-push (AvoidsFar way p col) front r.picks block y r.picked a; is = x }
+  reached-more row new y r a x = record { picks = r.picks ++ y ∷ []; picked = all_zip_push (AvoidsFar way p col) front r.picks block y r.picked a; is = x }
 
   pub peak-end : 0 < length block → (t : Peak) → (IsPeakSettled way p col front t × NoneOf p block (length block)) ⊎ IsPeaking way p col sure front block (length block) t → IsPeakSettled way p col (front ++ block ∷ []) t
   peak-end some t (inl (s, none)) = record {

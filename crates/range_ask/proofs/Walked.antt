@@ -10,7 +10,7 @@ use Rattle.std.proofs.lemmas.List.Elements.{Contains-push_cases}
 use Rattle.std.proofs.lemmas.Grind.{flat_map-append}
 use Rattle.std.specs.Ordering.{nat_cmp}
 use Rattle.cqa_value.specs.declared.value.Value.{Value}
-use Rattle.cqa_value.proofs.Words.{nat_cmp_less, sorted_join}
+use Rattle.cqa_value.proofs.Words.{all_zip_push, nat_cmp_less, sorted_join}
 use Rattle.cqa_model.proofs.Classic.{mem-nil, mem-cases}
 use Rattle.range_ask.specs.declared.sums.Side.{Side}
 use Rattle.range_ask.specs.declared.sums.Sides.{Sides}
@@ -18,7 +18,7 @@ use Rattle.range_ask.specs.Ranges.{total}
 use Rattle.range_ask.specs.Picks.{IsCheapest, IsDearest}
 use Rattle.range_ask.specs.Finding.{row_in_block}
 use Rattle.range_ask.specs.Walking.{rows_of_blocks, IsNextBlock, AreChosenSoFar, IsWithinBlocks, IsSide, AreSides}
-use Rattle.join_access.proofs.Naming.{zip-push, zip-length}
+use Rattle.join_access.proofs.Naming.{zip-length}
 use Rattle.range_ask.proofs.Lists.{single-sorted, none-sorted}
 use Rattle.table_blocks.specs.Tables.{rows_in}
 
@@ -58,7 +58,7 @@ module _ (rows : List (List Value)) (front : List (List (List Value))) (block : 
       | inl old ↦ (let z = h.below p old in let w = front-more in omega (arith, z, w))
       | inr same ↦ (let w = front-more in let s = next.start_is in omega (arith, w, same, l, s))
     ];
-    chosen = subst (AllZip R (front ++ block ∷ [])) (sym (map_push (λ p. row_in_block rows p) places m)) (zip-push R front (rows_in rows places) block (row_in_block rows m) h.chosen (subst (R block) (sym row-here) r));
+    chosen = subst (AllZip R (front ++ block ∷ [])) (sym (map_push (λ p. row_in_block rows p) places m)) (all_zip_push R front (rows_in rows places) block (row_in_block rows m) h.chosen (subst (R block) (sym row-here) r));
   })
     where
       m : ℕ

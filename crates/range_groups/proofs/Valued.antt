@@ -5,7 +5,8 @@ use Rattle.cqa_value.specs.declared.value.Value.{Value}
 use Rattle.cqa_model.specs.declared.aggregate.End.TheVariants.{Empty}
 use Rattle.cqa_model.specs.Database.{Table}
 use Rattle.table_blocks.specs.Tables.{rows_at}
-use Rattle.join_access.proofs.Naming.{zip-left, zip-right}
+use Rattle.cqa_value.proofs.Words.{all_zip_right}
+use Rattle.join_access.proofs.Naming.{zip-left}
 use Rattle.range_ask.specs.Picks.{IsInBlocks}
 use Rattle.range_join.specs.declared.carriers.Extreme.{Extreme}
 use Rattle.range_join.specs.declared.carriers.Extreme.TheVariants.{Least, Greatest}
@@ -61,7 +62,7 @@ module _ (db : List Table) (table : ℕ) (parted : IsInBlocks db table (blocks_a
         (q.0, q.1, reaches-both way (best q.0) (best p) (lags-false way (best p) (best q.0) (q.2.first p first.there)) (lags-false way (best q.0) (best p) (first.first q.0 q.2.there)) ∙ e)
 
     places-sure : (v : Value) → HasSome has near v → IsSure way best (spans_at db table) v
-    places-sure v (p, m, e) = let s = zip-right (IsFirst (λ p q. lags way (best p) (best q))) (spans_at db table) near near-are.firsts p m in (s.0, s.1, (p, s.2, e))
+    places-sure v (p, m, e) = let s = all_zip_right (IsFirst (λ p q. lags way (best p) (best q))) (spans_at db table) near p near-are.firsts m in (s.0, s.1, (p, s.2, e))
 
     near-value : (a : Option Value) → IsPeak way (IsSure way best (spans_at db table)) a → a ≡ peak_from way None best near
     near-value a h =

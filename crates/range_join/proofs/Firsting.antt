@@ -2,8 +2,7 @@
 use Rattle.std.proofs.Common.{◌≡◌, inl, inr, ℕ, ◌+◌, ◌-◌, ◌<◌, Bool, true, false, cond, List, [], ◌∷◌, ◌++◌, length, length-append, length-drop, drop, refl, sym, ◌∙◌, ap, subst, arith}
 use Rattle.std.specs.List.{AllZip}
 use Rattle.cqa_value.specs.declared.value.Value.{Value}
-use Rattle.cqa_value.proofs.Words.{clash, cases_next}
-use Rattle.join_access.proofs.Naming.{zip-push}
+use Rattle.cqa_value.proofs.Words.{all_zip_push, cases_next, clash}
 use Rattle.std.proofs.lemmas.Grind.{flat_map-append}
 use Rattle.cqa_model.specs.Blocks.{AreBlocks}
 use Rattle.range_ask.specs.Walking.{rows_of_blocks, IsNextBlock, IsReading}
@@ -50,7 +49,7 @@ module _ (before : ℕ → ℕ → Bool) (strict : IsStrictOrder before) where
   first-block rows front block later start at places new next h e are =
       subst (AllZip (IsFirst before) (spans_from 0 (front ++ block ∷ []))) (sym e)
       (subst (λ spans. AllZip (IsFirst before) spans (places ++ (start + at) ∷ [])) (sym (spans-push 0 front block))
-      (zip-push (IsFirst before) (spans_from 0 front) places span (start + at) are here))
+      (all_zip_push (IsFirst before) (spans_from 0 front) places span (start + at) are here))
     where
       span : Span
       span = record { from = 0 + length (rows_of_blocks front); behind = 0 + length (rows_of_blocks front) + length block }

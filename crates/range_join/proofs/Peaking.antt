@@ -10,10 +10,10 @@ use Rattle.std.specs.List.{AllZip}
 use Rattle.std.specs.Ordering.{is_lt, ordering_reverse}
 use Rattle.cqa_value.specs.declared.value.Value.{Value}
 use Rattle.cqa_value.specs.Values.{value_cmp, value_cmp_total}
-use Rattle.cqa_value.proofs.Words.{clash, cases_next}
+use Rattle.cqa_value.proofs.Words.{all_zip_right, cases_next, clash}
 use Rattle.cqa_model.specs.declared.aggregate.End.{End}
 use Rattle.cqa_model.specs.declared.aggregate.End.TheVariants.{Empty, Number, Held}
-use Rattle.join_access.proofs.Naming.{zip-left, zip-right}
+use Rattle.join_access.proofs.Naming.{zip-left}
 use Rattle.range_ask.specs.Ranges.{IsUpTo}
 use Rattle.range_ask.specs.Reaching.{as_end}
 use Rattle.range_ask.proofs.Ordered.{before-self, before-trans, lt-before, lt-behind, gt-before, gt-behind, not_gt}
@@ -195,14 +195,14 @@ module _ (way : Extreme) (has : ℕ → Value → Type 0) (n : ℕ) (best : ℕ 
     -- places of which each lies least far of its block
     pub nearest-reach : AllZip (IsFirst (λ p q. lags way (best p) (best q))) spans xs → Reaches way a b
     nearest-reach firsts = peaks-reach xs ys in_x in_y (λ p m.
-        let s = zip-right (IsFirst (λ p q. lags way (best p) (best q))) spans xs firsts p m in
+        let s = all_zip_right (IsFirst (λ p q. lags way (best p) (best q))) spans xs p firsts m in
         let q = zip-left StandsIn spans ys there s.0 s.1 in
         (q.0, q.1, lags-false way (best q.0) (best p) (s.2.first q.0 q.2))) a b h k
 
     -- and furthest
     pub furthest-reach : AllZip (IsFirst (λ p q. lags way (best q) (best p))) spans xs → Reaches way b a
     furthest-reach firsts = peaks-reach ys xs in_y in_x (λ p m.
-        let s = zip-right StandsIn spans ys there p m in
+        let s = all_zip_right StandsIn spans ys p there m in
         let q = zip-left (IsFirst (λ p q. lags way (best q) (best p))) spans xs firsts s.0 s.1 in
         (q.0, q.1, lags-false way (best q.0) (best p) (q.2.first p s.2))) b a k h
 
@@ -282,7 +282,7 @@ module _ (has : ℕ → Value → Type 0) (n : ℕ) (best : ℕ → Option Value
         go true e c f = inl (eq_of p top e)
         go false e None f = inr f
         go false e (Some v) f =
-            let s = zip-right First spans zs ranked p m in
+            let s = all_zip_right First spans zs p ranked m in
             let q = zip-left StandsIn spans xs there s.0 s.1 in
             absurd (clash (nat_lt (rank top best q.0) (rank top best p)) (goes-before q.0 p (bare q.0 q.1) e v f) (s.2.first q.0 q.2))
 

@@ -3,14 +3,14 @@ use Rattle.std.proofs.Common.{◌≡◌, ℕ, ◌<◌, ◌⊎◌, inl, inr, List
 use Rattle.std.specs.List.{AllZip}
 use Rattle.std.proofs.Math.Bool.{Bool-discrete}
 use native.Mathlib.Decide.{ℕ_discrete}
-use Rattle.cqa_value.proofs.Words.{clash, yes_of, no_of, is_yes, dec_both}
+use Rattle.cqa_value.proofs.Words.{all_zip_right, clash, dec_both, is_yes, no_of, yes_of}
 use Rattle.cqa_model.specs.declared.query.RowId.{RowId}
 use Rattle.cqa_model.specs.Database.{Table}
 use Rattle.cqa_model.specs.Repairs.{SharesKey}
 use Rattle.cqa_model.proofs.Classic.{dec_some, dec_if, find_below, find_in}
 use Rattle.cqa_model.proofs.Repairs.{dec_shares}
 use Rattle.table_blocks.specs.Tables.{rows_at, key_at}
-use Rattle.join_access.proofs.Naming.{same-name, zip-right}
+use Rattle.join_access.proofs.Naming.{same-name}
 use Rattle.row_lists.specs.Lists.{name, named, IsStored, IsIn, AreStored, IsOfBlock, SatisfiesNames}
 use Rattle.row_lists.specs.Classes.{AreAlikeBy, AreClosed, AreClasses, IsCovered, SatisfiesClasses}
 use Rattle.row_lists.specs.Laws.{ClassesOfNames}
@@ -95,7 +95,7 @@ module _ (db : List Table) (columns : ℕ → List ℕ) (lists : List (List RowI
           go (others, z) =
               let u = closed names others m (zip-weaker IsGood (AreAlikeBy db columns) (λ x y p. p.0) names others z) in
               let p = s.each u.0 u.1 in
-              let q = zip-right IsGood names others z p.0 (u.2 p.0 p.1) in
+              let q = all_zip_right IsGood names others p.0 z (u.2 p.0 p.1) in
               clash (a p.0) q.2.1 p.2
 
       list : (names : List RowId) → Contains lists names → ((id : RowId) → Contains names id → IsTrueClass a (class id)) ⊎ ((id : RowId) × Contains names id × (IsTrueClass a (class id) → ⊥)) →

@@ -10,7 +10,8 @@ use Rattle.cqa_model.proofs.Classic.{mem-nil}
 use Rattle.cnf_form.specs.declared.formula.Lit.{Lit}
 use Rattle.join_access.specs.declared.witness.Witness.{Witness}
 use Rattle.join_access.specs.Listing.{names_of}
-use Rattle.join_access.proofs.Naming.{same-name, zip-push}
+use Rattle.cqa_value.proofs.Words.{all_zip_push}
+use Rattle.join_access.proofs.Naming.{same-name}
 use Rattle.row_lists.specs.declared.span.Span.{Span}
 use Rattle.row_lists.specs.Clauses.{HasNumber, negative}
 use Rattle.row_lists.specs.Lists.{IsIn, IsStored, AreStored}
@@ -82,7 +83,7 @@ lists_more : (frame : List ℕ) (spans : List Span) (lists : List (List RowId)) 
     new ≡ mid ++ lits ∷ [] → AddsLists frame spans (lists ++ names ∷ []) old new
 lists_more frame spans lists old mid new names lits h c e = record {
   numbers = h.numbers ++ c.0 ∷ [];
-  numbered = zip-push (AreNumbersOf frame (variables_of_spans spans)) lists h.numbers names c.0 h.numbered c.1;
+  numbered = all_zip_push (AreNumbersOf frame (variables_of_spans spans)) lists h.numbers names c.0 h.numbered c.1;
   is = e ∙ (ap (λ ls. ls ++ lits ∷ []) h.is ∙ (append_assoc old (map (map negative) h.numbers) (lits ∷ [])
       ∙ (ap (λ l. old ++ (map (map negative) h.numbers ++ l ∷ [])) c.2 ∙ ap (λ ls. old ++ ls) (sym (map_push (map negative) h.numbers c.0)))));
 }

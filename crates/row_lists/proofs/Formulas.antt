@@ -7,14 +7,14 @@ use Rattle.std.proofs.lemmas.List.Elements.{Contains-append_left, Contains-appen
 use Rattle.std.proofs.Math.Bool.{Bool-discrete}
 use native.Mathlib.Decide.{ℕ_discrete}
 use Rattle.cqa_value.specs.declared.value.Value.{Value}
-use Rattle.cqa_value.proofs.Words.{Contains-map, Contains-from_map, clash, yes_of, no_of, is_yes, dec_one_below, dec_both}
+use Rattle.cqa_value.proofs.Words.{Contains-from_map, Contains-map, all_zip_right, clash, dec_both, dec_one_below, is_yes, no_of, yes_of}
 use Rattle.cqa_model.specs.declared.query.RowId.{RowId}
 use Rattle.cqa_model.specs.Database.{Table}
 use Rattle.cqa_model.proofs.Repairs.{dec_shares}
 use Rattle.cnf_form.specs.declared.formula.Lit.{Lit}
 use Rattle.cnf_form.specs.Literals.{Satisfies, SatisfiesAll}
 use Rattle.table_blocks.specs.Tables.{key_at}
-use Rattle.join_access.proofs.Naming.{same-name, zip-left, zip-right}
+use Rattle.join_access.proofs.Naming.{same-name, zip-left}
 use Rattle.join_access.proofs.Sorted.{one_sorted}
 use Rattle.row_lists.specs.Clauses.{Variable, variable_cmp, HasNumber, AreAllLists, Formula, IsSatisfiable, positive, negative, clauses}
 use Rattle.row_lists.proofs.Numbers.{passing, passing-has, passing-holds, passing-rises}
@@ -172,7 +172,7 @@ module _ (db : List Table) (frame : List ℕ) (lists : List (List RowId)) (f : F
                   (positive k.0, Contains-map positive numbers k.0 ((b.exactly k.0).1 (z, hz, subst (IsOfBlock db (name_in frame x)) (sym ez) whole)), value_is a k.0 z hz ∙ (ap a ez ∙ an))
 
       of_list : (c : List Lit) → ((numbers : List ℕ) × Contains f.witnesses numbers × (map negative numbers ≡ c)) → Satisfies (value_of a) c
-      of_list c (numbers, m, e) = subst (λ d. Satisfies (value_of a) d) e (go (zip-right (AreNumbersOf frame vars) lists f.witnesses h.witnesses numbers m))
+      of_list c (numbers, m, e) = subst (λ d. Satisfies (value_of a) d) e (go (all_zip_right (AreNumbersOf frame vars) lists f.witnesses numbers h.witnesses m))
         where
           go : ((names : List RowId) × Contains lists names × AreNumbersOf frame vars names numbers) → Satisfies (value_of a) (map negative numbers)
           go (names, mn, an) =
@@ -235,6 +235,6 @@ list_clauses_rise db frame lists f h c m = elim (Contains-append_cases (map (map
       let x = (h.blocks.exactly p.0).0 p.1 in
       rises_of (length f.variables) positive (λ n. refl) p.0 c p.2 x.2.rises (λ n mn. let y = (x.2.exactly n).0 mn in number_below f.variables n y.0 y.1)
   | inr b ↦ let p = Contains-from_map (map negative) f.witnesses c b in
-      let w = zip-right (AreNumbersOf frame f.variables) lists f.witnesses h.witnesses p.0 p.1 in
+      let w = all_zip_right (AreNumbersOf frame f.variables) lists f.witnesses p.0 h.witnesses p.1 in
       rises_of (length f.variables) negative (λ n. refl) p.0 c p.2 w.2.rises (λ n mn. let y = (w.2.exactly n).0 mn in number_below f.variables n y.2.0 y.2.1)
 ]

@@ -7,7 +7,7 @@ use Rattle.cqa_value.specs.declared.value.Value.{Value}
 use Rattle.range_ask.specs.declared.groups.Group.{Group}
 use Rattle.range_ask.specs.declared.tally.Tally.{Tally}
 use Rattle.range_ask.specs.Tallying.{IsEnded}
-use Rattle.join_access.proofs.Naming.{zip-push}
+use Rattle.cqa_value.proofs.Words.{all_zip_push}
 use Rattle.range_ask.proofs.groups.gather.Goals as goal
 
 pub loop-value-preserved : goal.loop-value-preserved
@@ -16,7 +16,7 @@ loop-value-preserved c =
     let entry : Value × Tally = (c.in-Some.value.now, c.in-Some.tally.now) in
     subst (λ es. AllZip R es c.push.new.self) (sym (map_push deref_pair c.loop-value.yielded (c.in-Some.value, c.in-Some.tally)))
     (subst (AllZip R (map deref_pair c.loop-value.yielded ++ entry ∷ [])) (sym c.in_ok-push.ensures.ok)
-    (zip-push R (map deref_pair c.loop-value.yielded) c.loop-value.list entry c.in_ok-group_of.field-0 c.loop-value.invariant c.in_ok-group_of.ensures))
+    (all_zip_push R (map deref_pair c.loop-value.yielded) c.loop-value.list entry c.in_ok-group_of.field-0 c.loop-value.invariant c.in_ok-group_of.ensures))
 
 pub returns-clause-ended : goal.returns-clause-ended
 returns-clause-ended c =
