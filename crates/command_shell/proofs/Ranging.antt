@@ -8,7 +8,7 @@ use Rattle.existence_law.proofs.Ranging.{ranges_exist}
 use Rattle.join_access.specs.Listing.{HasTooMany}
 use Rattle.query_resolve.specs.declared.range.RangeQuery.{RangeQuery}
 use Rattle.query_resolve.specs.Resolved.{IsRangeOf}
-use Rattle.existence_law.specs.Joins.{CanBeRanged}
+use Rattle.existence_law.specs.JoinRanges.{CanBeRanged}
 use Rattle.existence_law.proofs.Grouping.{groups_exist}
 use Rattle.existence_law.proofs.Joining.{join_ranges_exist}
 use Rattle.existence_law.proofs.JoinGrouping.{join_groups_exist}

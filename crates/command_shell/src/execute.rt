@@ -45,63 +45,63 @@ use std::mem;
 /// Answers what is asked of a query.
 fn asked(
     alloc: Global,
-    state: &mut SessionState,
+    session: &mut SessionState,
     verb: &Verb,
     select: &Select,
 ) -> Result<Reply, Fail<Refusal>>
-    ensures { IsReplyOutcome result state.old (Replies (query_fault state.old.tables select.now) state.old (Asks state.old verb.now select.now)) state.new }
+    ensures { IsReplyOutcome result session.old (Replies (query_fault session.old.tables select.now) session.old (Asks session.old verb.now select.now)) session.new }
 {
     match verb {
-        Verb::Ask => ask(alloc, state, select),
-        Verb::Possible => possible(alloc, state, select),
-        Verb::Disputed => disputed(alloc, state, select),
-        Verb::Classify => classify(alloc, state, select),
-        Verb::Plan => plan(alloc, state, select),
-        Verb::Sql => sql(alloc, state, select),
-        Verb::Explain { row } => explain(alloc, state, row, select),
-        Verb::Against { row } => against(alloc, state, row, select),
-        Verb::Prove { row } => prove(alloc, state, row, select),
+        Verb::Ask => ask(alloc, session, select),
+        Verb::Possible => possible(alloc, session, select),
+        Verb::Disputed => disputed(alloc, session, select),
+        Verb::Classify => classify(alloc, session, select),
+        Verb::Plan => plan(alloc, session, select),
+        Verb::Sql => sql(alloc, session, select),
+        Verb::Explain { row } => explain(alloc, session, row, select),
+        Verb::Against { row } => against(alloc, session, row, select),
+        Verb::Prove { row } => prove(alloc, session, row, select),
     }
 }
 
 /// Does what a statement says, with the block that follows it. The rows of an `insert` are taken out of it.
 fn done(
     alloc: Global,
-    state: &mut SessionState,
+    session: &mut SessionState,
     statement: &mut Statement,
     block: Option<&[u8]>,
 ) -> Result<Reply, Fail<Refusal>>
     requires { IsSmall statement.old }
-    ensures { IsReplyOutcome result state.old (Does state.old (Ok statement.old) (option_copied block.entry)) state.new }
+    ensures { IsReplyOutcome result session.old (Does session.old (Ok statement.old) (option_copied block.entry)) session.new }
 {
     match statement {
-        Statement::Create { schema } => create(alloc, state, schema),
-        Statement::Alter { table, change } => alter(alloc, state, table, change),
+        Statement::Create { schema } => create(alloc, session, schema),
+        Statement::Alter { table, change } => alter(alloc, session, table, change),
         Statement::Insert { table, rows } => {
             let rows = mem::replace(rows, Items::new(alloc));
-            insert(alloc, state, table, rows)
+            insert(alloc, session, table, rows)
         }
-        Statement::Delete { table, tests } => delete(alloc, state, table, tests.as_slice()),
-        Statement::Prefer { table, tests } => prefer(alloc, state, table, tests.as_slice()),
-        Statement::Copy { table } => copy(alloc, state, table, block),
+        Statement::Delete { table, tests } => delete(alloc, session, table, tests.as_slice()),
+        Statement::Prefer { table, tests } => prefer(alloc, session, table, tests.as_slice()),
+        Statement::Copy { table } => copy(alloc, session, table, block),
         Statement::Range {
             goal,
             table,
             tests,
             group,
-        } => range(alloc, state, table, goal, tests.as_slice(), group),
-        Statement::RangeJoin { range } => range_of_join(alloc, state, range),
-        Statement::Asking { verb, select } => asked(alloc, state, verb, select),
-        Statement::AskUnion(selects) => ask_union(alloc, state, selects),
-        Statement::PossibleUnion(selects) => possible_union(alloc, state, selects),
-        Statement::ClassifyUnion(selects) => classify_union(alloc, state, selects),
-        Statement::SqlUnion(selects) => sql_union(alloc, state, selects),
-        Statement::ExplainUnion { row, selects } => explain_union(alloc, state, row, selects),
-        Statement::SetConflicts(conflicts) => set_conflicts(state, *conflicts),
-        Statement::ShowTables => show_tables(alloc, state),
-        Statement::ShowConflicts => show_conflicts(alloc, state),
-        Statement::Dump => dump(alloc, state),
-        Statement::ShowLog => show_log(alloc, state),
+        } => range(alloc, session, table, goal, tests.as_slice(), group),
+        Statement::RangeJoin { range } => range_of_join(alloc, session, range),
+        Statement::Asking { verb, select } => asked(alloc, session, verb, select),
+        Statement::AskUnion(selects) => ask_union(alloc, session, selects),
+        Statement::PossibleUnion(selects) => possible_union(alloc, session, selects),
+        Statement::ClassifyUnion(selects) => classify_union(alloc, session, selects),
+        Statement::SqlUnion(selects) => sql_union(alloc, session, selects),
+        Statement::ExplainUnion { row, selects } => explain_union(alloc, session, row, selects),
+        Statement::SetConflicts(conflicts) => set_conflicts(session, *conflicts),
+        Statement::ShowTables => show_tables(alloc, session),
+        Statement::ShowConflicts => show_conflicts(alloc, session),
+        Statement::Dump => dump(alloc, session),
+        Statement::ShowLog => show_log(alloc, session),
     }
 }
 
@@ -112,14 +112,14 @@ fn done(
 /// The first check of the statement that fails; nothing has changed then.
 pub fn execute(
     alloc: Global,
-    state: &mut SessionState,
+    session: &mut SessionState,
     mut statement: Statement,
     block: Option<&[u8]>,
 ) -> Result<Reply, Fail<Refusal>>
     requires { IsSmall statement }
-    ensures { IsReplyOutcome result state.old (Does state.old (Ok statement) (option_copied block.entry)) state.new }
+    ensures { IsReplyOutcome result session.old (Does session.old (Ok statement) (option_copied block.entry)) session.new }
 {
-    let reply = done(alloc, state, &mut statement, block);
+    let reply = done(alloc, session, &mut statement, block);
     drop(statement);
     reply
 }

@@ -5,9 +5,9 @@ ghost use Rattle.command_shell.specs.Laws.{StepsGoOn, RunsGoOn, InputsAreRun, St
 ghost use Rattle.command_shell.specs.GoingOn.{GoesOnFrom};
 
 use crate::Session;
+use existence_law::unions::{union_answers_exist, union_reasons_exist};
 use reading_law::inputs::inputs_are_cut;
 use union_ask::candidates_decide;
-use existence_law::unions::{union_answers_exist, union_reasons_exist};
 
 /// From each valid state, each text with each block has a step to a valid state.
 pub fn steps_go_on()

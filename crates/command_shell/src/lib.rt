@@ -1,4 +1,4 @@
-//! The program itself: the machine of a session, which takes the text of a statement to its reply, and the top call, from words and
+//! The program itself: a session of the machine, which takes the text of a statement to its reply, and the top call, from words and
 //! bytes to a status. Beside them stand the laws that the machine always goes on, so that what was written where a run was cut short
 //! begins the text of a whole one.
 #![tactic(auto)]

@@ -72,23 +72,23 @@ impl Session {
         ensures complete { (said : Result Statement RefusalValue) → Says text.now said → IfOk result (λ reply. Does self.old said (option_copied block.entry) reply self.new) }
         ensures err { OnErr result (self.new ≡ self.old) }
     {
-        reply_to(alloc, &mut self.state, text, block)
+        step(alloc, &mut self.state, text, block)
     }
 }
 
-/// Answers a statement: a refusal is its reply, too.
-fn reply_to(
+/// Makes a step: answers a statement, where a refusal is its reply, too.
+fn step(
     alloc: Global,
-    state: &mut SessionState,
+    session: &mut SessionState,
     text: &[u8],
     block: Option<&[u8]>,
 ) -> Result<Reply, NoMemory>
     requires { length text.now ≤ LONGEST_INPUT }
-    ensures step { IfOk result (λ reply. Step state.old text.now (option_copied block.entry) reply state.new) }
-    ensures complete { (said : Result Statement RefusalValue) → Says text.now said → IfOk result (λ reply. Does state.old said (option_copied block.entry) reply state.new) }
-    ensures err { OnErr result (state.new ≡ state.old) }
+    ensures step { IfOk result (λ reply. Step session.old text.now (option_copied block.entry) reply session.new) }
+    ensures complete { (said : Result Statement RefusalValue) → Says text.now said → IfOk result (λ reply. Does session.old said (option_copied block.entry) reply session.new) }
+    ensures err { OnErr result (session.new ≡ session.old) }
 {
-    match answer(alloc, state, text, block) {
+    match answer(alloc, session, text, block) {
         Ok(reply) => Ok(reply),
         Err(Fail::Refused(refusal)) => Ok(Reply::Refused(refusal)),
         Err(Fail::NoMemory) => Err(NoMemory),
@@ -98,15 +98,15 @@ fn reply_to(
 /// Answers a statement, or refuses it.
 fn answer(
     alloc: Global,
-    state: &mut SessionState,
+    session: &mut SessionState,
     text: &[u8],
     block: Option<&[u8]>,
 ) -> Result<Reply, Fail<Refusal>>
     requires { length text.now ≤ LONGEST_INPUT }
-    ensures { IsReplyOutcome result state.old (Step state.old text.now (option_copied block.entry)) state.new }
+    ensures { IsReplyOutcome result session.old (Step session.old text.now (option_copied block.entry)) session.new }
 {
     let statement = read(alloc, text)?;
-    execute(alloc, state, statement, block)
+    execute(alloc, session, statement, block)
 }
 
 /// A text says at most one thing: one statement, or the one refusal of its form.

@@ -15,7 +15,7 @@ use Rattle.range_ask.specs.declared.groups.Group.{Group}
 use Rattle.range_ask.specs.declared.range.Range.{Range}
 use Rattle.range_ask.specs.Groups.{tests_with, IsGroup, HasMember, group_values, AreGroups}
 use Rattle.range_ask.specs.Ranges.{cell, meets, IsRange}
-use Rattle.existence_law.specs.Groups.{GroupsExist}
+use Rattle.existence_law.specs.RangeGroups.{GroupsExist}
 use Rattle.table_blocks.specs.declared.test.ColumnTest.{ColumnTest}
 use Rattle.table_blocks.specs.Tables.{rows_at}
 

@@ -18,7 +18,7 @@ use Rattle.range_join.specs.declared.sought.Sought.{Sought}
 use Rattle.range_join.specs.Joins.{IsPartRange}
 use Rattle.range_join.specs.Worths.{named_row}
 use Rattle.range_join.proofs.Named.{rows_told, names_for}
-use Rattle.existence_law.specs.Joins.{CanBeRanged, JoinGroupsExist}
+use Rattle.existence_law.specs.JoinRanges.{CanBeRanged, JoinGroupsExist}
 use Rattle.existence_law.proofs.Grouping.{values_in_order, values_rise, value_from, value_in_order, group_values-map, each_group}
 use Rattle.existence_law.proofs.Joining.{part_range}
 

@@ -33,7 +33,7 @@ use Rattle.range_join.specs.Worths.{named_row, sum_of, worth_at, adds}
 use Rattle.range_join.proofs.Adding.{once_from, once_to, once-filter}
 use Rattle.range_join.proofs.Counted.{value-kept}
 use Rattle.range_join.proofs.Kept.{all-names, kept-witnesses}
-use Rattle.existence_law.specs.Joins.{CanBeRanged, JoinRangesExist}
+use Rattle.existence_law.specs.JoinRanges.{CanBeRanged, JoinRangesExist}
 use Rattle.table_blocks.specs.Tables.{rows_in, names_in}
 
 -- ---- two lists of the same rows

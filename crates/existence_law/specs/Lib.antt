@@ -12,5 +12,5 @@ pub mod UnionReasons
 pub mod UnionParts
 pub mod Against
 pub mod Ranges
-pub mod Groups
-pub mod Joins
+pub mod RangeGroups
+pub mod JoinRanges

@@ -1,5 +1,6 @@
-//! What exists: answers, witnesses by name, formulas, refutations and repairs, over the definitions alone. Each law is what its
-//! function ensures, so the build proves it.
+//! What exists of a query: answers, witnesses by name, formulas, refutations, repairs, first blocks, the first candidate over the
+//! limit; and that attacks and methods are decided. Over the definitions alone: each law is what its function ensures, so the build
+//! proves it.
 
 ghost use Rattle.existence_law.specs.Answers.{AnswersExist, RowsAreDecided};
 ghost use Rattle.existence_law.specs.Blocks.{FirstBlocksExist};

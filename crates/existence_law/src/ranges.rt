@@ -1,8 +1,8 @@
-//! What ranges exist: by groups, and of aggregates over the witnesses of a query; over the definitions alone. Each law is what its
-//! function ensures, so the build proves it.
+//! What ranges exist: of an aggregate of a table, by groups, and over the witnesses of a query; over the definitions alone. Each law
+//! is what its function ensures, so the build proves it.
 
-ghost use Rattle.existence_law.specs.Groups.{GroupsExist};
-ghost use Rattle.existence_law.specs.Joins.{JoinGroupsExist, JoinRangesExist};
+ghost use Rattle.existence_law.specs.RangeGroups.{GroupsExist};
+ghost use Rattle.existence_law.specs.JoinRanges.{JoinGroupsExist, JoinRangesExist};
 ghost use Rattle.existence_law.specs.Ranges.{RangesExist};
 
 /// An aggregate of a table has a range.

@@ -9,7 +9,7 @@ ghost use Rattle.weak_pairs.specs.Pairs.{FitsAlone};
 ghost use Rattle.pair_answers.specs.Fitting.{HasLinkedAnswer, GivenBy, GivenFits, HasValueOf, HaveValueOf, OwnFits};
 
 use crate::side::Side;
-use cqa_model::{ColRef, Cond, Op, Query};
+use cqa_model::{ColRef, Cond, Op};
 use cqa_value::{NOTHING, Row, Value};
 use join_access::{are_linked, passes_tests};
 

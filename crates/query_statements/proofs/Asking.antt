@@ -1,7 +1,6 @@
 -- What is answered to a query is answered to the statement that asks for it.
-use Rattle.std.proofs.Common.{◌≡◌, ℕ, inr, List, Option, None, Result, Ok, Err, refl, sym, subst}
+use Rattle.std.proofs.Common.{◌≡◌, ℕ, List, Option, None, Result, refl, sym, subst}
 use Rattle.cqa_value.specs.declared.memory.Fail.{Fail}
-use Rattle.cqa_value.specs.declared.memory.Fail.TheVariants as fails
 use Rattle.cqa_model.specs.declared.query.Query.{Query}
 use Rattle.cqa_model.specs.Database.{Table}
 use Rattle.row_answers.specs.declared.side.Side.{Side}
@@ -19,16 +18,17 @@ use Rattle.reply_text.specs.declared.reply.Reply.{Reply}
 use Rattle.session_state.specs.State.{State}
 use Rattle.session_state.specs.Replying.{Replies, IsReplyOutcome}
 use Rattle.query_statements.specs.Sides.{AnswersSide, FindsRows, StopsSearch, TellsSide}
-use Rattle.session_state.specs.Untold.{RefusesStop}
+use Rattle.query_statements.specs.Stopped.{RefusesStop}
+use Rattle.session_state.proofs.Doing.{replied_as, unrefused}
 use Rattle.session_state.proofs.Spending.{spends}
 
 module _ (old new : State) (q : Query) (side : Side) where
   -- an answer to the query is one to the statement that asks for it
   pub answered : (fault : Option Refusal) (select : Select) (result : Result Reply (Fail Refusal)) → fault ≡ None → IsQueryOf old.tables select q → IsReplyOutcome result old (TellsSide old q side) new →
       IsReplyOutcome result old (Replies fault old (AnswersSide old select side)) new
-  answered fault select (Ok reply) valid resolved told = inr (valid, record { query = q; resolved = resolved; told = told })
-  answered fault select (Err (fails.Refused refusal)) valid resolved told = inr (valid, record { query = q; resolved = resolved; told = told })
-  answered fault select (Err fails.NoMemory) valid resolved told = told
+  answered fault select result valid resolved told =
+      unrefused fault old new (AnswersSide old select side) result valid
+      (replied_as old new (TellsSide old q side) (AnswersSide old select side) result (λ reply t. record { query = q; resolved = resolved; told = t }) told)
 
 -- the refusal of the row at which a search stopped
 pub search_stopped : (old new : State) (q : Query) (why : Stop) (refusal : Refusal) → IsStop q old.tables old.budget why → RefusesStop old why refusal new → StopsSearch old q refusal new

@@ -1,5 +1,5 @@
 pub mod Apart
-pub mod Asking
+mod Asking
 mod Contesting
 mod Joining
 mod Ranging

@@ -17,7 +17,7 @@ use Rattle.reply_text.specs.declared.reply.Reply.{Reply}
 use Rattle.reply_text.specs.declared.reply.Reply.TheVariants as replies
 use Rattle.session_state.specs.State.{State}
 use Rattle.session_state.specs.Replying.{Replies, IsReplyOutcome}
-use Rattle.session_state.specs.Untold.{RefusesStop}
+use Rattle.query_statements.specs.Stopped.{RefusesStop}
 use Rattle.query_statements.specs.AskUnion.{AnswersUnion, StopsUnion, TellsUnion}
 use Rattle.session_state.proofs.Doing.{replied_as, unrefused}
 use Rattle.session_state.proofs.Spending.{spends}

@@ -1,3 +1,4 @@
+pub mod Stopped
 pub mod Sides
 pub mod Ask
 pub mod AskUnion

@@ -6,13 +6,14 @@ ghost use Rattle.union_ask.specs.Searching.{IsSearchedIn};
 ghost use Rattle.session_state.specs.Replying.{Replies, IsReplyOutcome};
 ghost use Rattle.query_statements.specs.AskUnion.{AnswersUnion, TellsUnion};
 
+use crate::stopped::refuse_stop;
 use cqa_model::Query;
 use cqa_value::Fail;
 use part_search::{BoundParts, Searched};
 use query_resolve::resolve_all;
 use refusals::Refusal;
 use reply_text::Reply;
-use session_state::{SessionState, refuse_stop};
+use session_state::SessionState;
 use spj_syntax::Selects;
 use std::alloc::Global;
 use union_ask::certain_of_union;

@@ -15,3 +15,4 @@ pub mod range_of_join;
 mod sides;
 pub mod sql;
 pub mod sql_union;
+mod stopped;

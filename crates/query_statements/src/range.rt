@@ -18,13 +18,14 @@ use query_resolve::{resolve_goal, resolve_group, resolve_tests};
 use range_ask::{Ends, Group, ends_of, groups_of};
 use refusals::Refusal;
 use reply_text::{GroupEnds, Reply};
-use session_state::{SessionState, table_place};
+use session_state::SessionState;
+use session_state::table_place::table_place;
 use spj_syntax::{RawGoal, RawTest};
 use std::alloc::Global;
 use table_blocks::{ColumnTest, Database};
 
 /// The reply that tells both ends, each with the lines of the rows that a repair which has it chose.
-pub fn told(alloc: Global, db: &Database, ends: Ends) -> Result<Reply, NoMemory>
+pub(crate) fn told(alloc: Global, db: &Database, ends: Ends) -> Result<Reply, NoMemory>
     requires low { AreStored db.now ends.low }
     requires high { AreStored db.now ends.high }
     ensures { IfOk result (λ reply. reply ≡ Reply.Range ends.least (map (kept_line db.now) ends.low) ends.greatest (map (kept_line db.now) ends.high)) }
@@ -56,7 +57,7 @@ fn tell(
 }
 
 /// The lines of groups.
-pub fn group_lines(alloc: Global, groups: Items<Group>) -> Result<Items<GroupEnds>, NoMemory>
+pub(crate) fn group_lines(alloc: Global, groups: Items<Group>) -> Result<Items<GroupEnds>, NoMemory>
     ensures { IfOk result (λ lines. lines ≡ map group_line groups) }
 {
     let groups = groups.into_vec().into_iter();

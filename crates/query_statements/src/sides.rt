@@ -11,6 +11,7 @@ ghost use Rattle.query_resolve.specs.Checks.{query_fault};
 ghost use Rattle.session_state.specs.Replying.{Replies, IsReplyOutcome};
 ghost use Rattle.query_statements.specs.Sides.{AnswersSide, FindsRows, TellsSide};
 
+use crate::stopped::refuse_stop;
 use cqa_model::{Plan, Query};
 use cqa_value::{Fail, Items, NoMemory, Row};
 use fo_plan::certain_by_plan;
@@ -23,7 +24,7 @@ use refusals::Refusal;
 use reply_text::Reply;
 use row_answers::{Side, without};
 use search_answers::rows_by_search;
-use session_state::{SessionState, refuse_stop};
+use session_state::SessionState;
 use spj_syntax::Select;
 use std::alloc::Global;
 use table_blocks::Bound;

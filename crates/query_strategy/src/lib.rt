@@ -2,11 +2,11 @@
 //! are apart: no table whose rows differ between repairs stands in two of them.
 #![tactic(auto)]
 
-mod laws;
+mod apart;
 mod pair;
 mod shared;
 mod strategy;
 
-pub use laws::apart_by_index;
+pub use apart::apart_by_index;
 pub use shared::{Shared, has_loose, shared_table};
 pub use strategy::{Strategy, strategy_by_sizes, strategy_of};

@@ -23,7 +23,7 @@ use Rattle.cqa_model.proofs.Values.{dec_by}
 use Rattle.csv_rows.specs.Blocks.{IsFieldOf, IsRecordOf}
 use Rattle.csv_rows.proofs.Fitting.{record_valid}
 use Rattle.table_blocks.specs.Tables.{AreValidRows}
-use Rattle.reading_law.specs.Blocks.{BlocksAreRead}
+use Rattle.reading_law.specs.CsvBlocks.{BlocksAreRead}
 
 -- ---- the value of a field, and the row of a record
 

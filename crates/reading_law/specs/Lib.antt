@@ -1,4 +1,4 @@
 pub mod Inputs
 pub mod Texts
 pub mod Names
-pub mod Blocks
+pub mod CsvBlocks

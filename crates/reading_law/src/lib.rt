@@ -4,7 +4,7 @@
 //! Each block of CSV holds rows, or has a first record that is no row. No code.
 #![tactic(auto)]
 
-pub mod blocks;
+pub mod csv_blocks;
 pub mod inputs;
 pub mod names;
 pub mod texts;

@@ -1,5 +1,5 @@
-pub mod Explaining
-pub mod Opposing
-pub mod Proving
+mod Explaining
+mod Opposing
+mod Proving
 mod Spending
 mod Uniting

@@ -84,7 +84,7 @@ fn by_block(alloc: Global, db: &Database, table: u32, key: Row) -> Result<Reply,
 }
 
 /// The reply that tells a repair by the names of its rows.
-pub fn rejected(alloc: Global, db: &Database, names: Items<RowId>) -> Result<Reply, NoMemory>
+pub(crate) fn rejected(alloc: Global, db: &Database, names: Items<RowId>) -> Result<Reply, NoMemory>
     requires { AreStored db.now names }
     ensures { IfOk result (λ reply. reply ≡ Reply.Rejected (map (kept_line db.now) names)) }
 {
@@ -94,7 +94,11 @@ pub fn rejected(alloc: Global, db: &Database, names: Items<RowId>) -> Result<Rep
 }
 
 /// The reply that tells a refutation of a row's formula, which is kept as the last log.
-pub fn refuted(alloc: Global, session: &mut SessionState, proof: Proof) -> Result<Reply, NoMemory>
+pub(crate) fn refuted(
+    alloc: Global,
+    session: &mut SessionState,
+    proof: Proof,
+) -> Result<Reply, NoMemory>
     ensures told { IfOk result (λ reply. reply ≡ Reply.ByRefutation proof) }
     ensures kept { IfOk result (λ reply. session.new ≡ record session.old { last_log = Some proof }) }
     ensures err { OnErr result (session.new ≡ session.old) }

@@ -1,7 +1,7 @@
 pub mod Altering
-pub mod Copying
+mod Copying
 pub mod Doing
-pub mod Dumping
+mod Dumping
 pub mod Spending
-pub mod TableLines
+mod TableLines
 pub mod Valid

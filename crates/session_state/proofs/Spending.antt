@@ -19,7 +19,7 @@ wider : (clauses more : List (List Lit)) (p : List Lit) → IsPropagation clause
 wider clauses more [] is = tt
 wider clauses more (l ∷ before) is = ((is.0.0, Contains-append_left clauses more is.0.0 is.0.1, is.0.2, is.0.3), wider clauses more before is.1)
 
-pub spent_is_due : (cnf : Cnf) (budget : ℕ) (steps : List Step) → IsSpentLog cnf budget steps → IsDue cnf budget
+spent_is_due : (cnf : Cnf) (budget : ℕ) (steps : List Step) → IsSpentLog cnf budget steps → IsDue cnf budget
 spent_is_due cnf budget steps s =
     let clauses = literals cnf.clauses in
     let more = added steps in

@@ -6,7 +6,7 @@ use Rattle.cqa_model.specs.declared.schema.Column.{Column}
 use Rattle.cqa_model.specs.declared.schema.Schema.{Schema}
 use Rattle.cqa_model.specs.Database.{Table}
 use Rattle.cqa_model.specs.Valid.{IsName, HasNames, AreValid}
-use Rattle.cqa_model.proofs.Classic.{mem-head, mem-tail, mem-nil, mem-cases}
+use Rattle.cqa_model.proofs.Classic.{mem-head, mem-tail, mem-cases}
 use Rattle.spj_syntax.specs.declared.tree.RawSchema.{RawSchema}
 use Rattle.spj_syntax.specs.declared.tree.Change.{Change}
 use Rattle.spj_syntax.specs.declared.tree.Change.TheVariants.{SetStrict, DropStrict, SetKey}
@@ -25,10 +25,6 @@ state_of tables budget log stored named few = record { database = stored.databas
 
 pub named_in : (db : List Table) → AreValid db → AreNamed db
 named_in db valid table m = (valid table m).names
-
--- no table has names to keep
-pub named_none : AreNamed []
-named_none table m = absurd (mem-nil table m)
 
 -- a table that is made has the names that were written
 pub named_schema : (raw : RawSchema) (schema : Schema) → IsSchemaOf raw schema → HasNames schema

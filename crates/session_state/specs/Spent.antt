@@ -14,8 +14,8 @@ pub record IsDue (cnf : Cnf) (budget : ℕ) : Type 0 where
   pub unrefuted : ReachesEmpty (literals cnf.clauses) → ⊥
   pub free : (v : ℕ) × (1 ≤ v) × (v ≤ cnf.vars) × StaysOpen (literals cnf.clauses) v
 
--- The budget is used up for a row, for whose formula it can be. The formula is kept with a spent log for the budget, as the
--- last log.
+-- The budget is used up for the formula of a row of a query or of a union, as IsSpent says, and it can be for this formula,
+-- which is kept with the spent log as the last log.
 pub record Spends (IsSpent : Cnf → Log → Type 0) (old : State) (conflicts : ℕ) (new : State) : Type 0 where
   pub proof : Proof
   pub spent : IsSpent proof.cnf proof.log

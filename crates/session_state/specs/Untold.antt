@@ -7,8 +7,6 @@ use Rattle.refusals.specs.declared.refusal.Refusal.{Refusal}
 use Rattle.refusals.specs.declared.refusal.Refusal.TheVariants as refusals
 use Rattle.repair_back.specs.declared.reason.Untold.{Untold}
 use Rattle.repair_back.specs.declared.reason.Untold.TheVariants.{Over, Spent}
-use Rattle.part_search.specs.declared.searched.Stop.{Stop}
-use Rattle.part_search.specs.declared.searched.Stop.TheVariants as stops
 use Rattle.session_state.specs.State.{State}
 
 -- The refusal says what keeps the row from being told. Where that is a spent budget, the row's formula is kept with the
@@ -17,8 +15,3 @@ abbrev pub RefusesRow : State → List Value → Untold → Fail Refusal → Sta
 RefusesRow old row stop fails.NoMemory new = new ≡ old
 RefusesRow old row Over (fails.Refused refusal) new = (refusal ≡ refusals.WitnessLimit row) × (new ≡ old)
 RefusesRow old row (Spent cnf log) (fails.Refused refusal) new = (refusal ≡ refusals.Spent row old.budget) × (new ≡ record old { last_log = Some (record { cnf = cnf; log = log }) })
-
--- So does the refusal of the row at which a search for all rows stopped.
-abbrev pub RefusesStop : State → Stop → Refusal → State → Type 0
-RefusesStop old (stops.Over row) refusal new = RefusesRow old row Over (fails.Refused refusal) new
-RefusesStop old (stops.Spent row cnf log) refusal new = RefusesRow old row (Spent cnf log) (fails.Refused refusal) new

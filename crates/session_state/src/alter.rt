@@ -8,7 +8,7 @@ ghost use Rattle.session_state.specs.Replying.{Replies, IsReplyOutcome};
 ghost use Rattle.session_state.specs.Alter.{change_fault, alter_fault, Changes, Alters};
 
 use crate::state::SessionState;
-use crate::table_of_name::table_place;
+use crate::table_place::table_place;
 use cqa_value::{Fail, Name};
 use query_resolve::resolve_key;
 use refusals::Refusal;

@@ -6,7 +6,7 @@ ghost use Rattle.session_state.specs.Replying.{Replies, IsReplyOutcome};
 ghost use Rattle.session_state.specs.Copy.{block_bytes, copy_into_fault, CopiesInto};
 
 use crate::state::SessionState;
-use crate::table_of_name::table_place;
+use crate::table_place::table_place;
 use cqa_value::{Fail, Name};
 use csv_rows::read_rows;
 use refusals::Refusal;

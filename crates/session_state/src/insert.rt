@@ -6,7 +6,7 @@ ghost use Rattle.session_state.specs.Replying.{Replies, IsReplyOutcome};
 ghost use Rattle.session_state.specs.Insert.{insert_into_fault, InsertsInto};
 
 use crate::state::SessionState;
-use crate::table_of_name::table_place;
+use crate::table_place::table_place;
 use cqa_value::{Fail, Items, Name, Row};
 use refusals::Refusal;
 use reply_text::Reply;

@@ -14,9 +14,8 @@ pub mod show_conflicts;
 pub mod show_log;
 pub mod show_tables;
 mod state;
-mod table_of_name;
+pub mod table_place;
 mod untold;
 
 pub use state::SessionState;
-pub use table_of_name::table_place;
-pub use untold::{refuse_row, refuse_stop};
+pub use untold::{refusal_of, refuse_row};

@@ -6,7 +6,7 @@ ghost use Rattle.session_state.specs.Replying.{Replies, IsReplyOutcome};
 ghost use Rattle.session_state.specs.Prefer.{prefer_fault, PrefersIn};
 
 use crate::state::SessionState;
-use crate::table_of_name::table_place;
+use crate::table_place::table_place;
 use cqa_value::{Fail, Name};
 use query_resolve::resolve_tests;
 use refusals::Refusal;

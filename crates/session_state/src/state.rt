@@ -48,7 +48,7 @@ impl SessionState {
     }
 
     /// The log that was kept last, with its formula.
-    pub fn last_log(&self) -> Option<&Proof>
+    pub(crate) fn last_log(&self) -> Option<&Proof>
         ensures { option_copied result ≡ self.now.last_log }
     {
         self.last_log.as_ref()
@@ -69,7 +69,7 @@ impl SessionState {
     }
 
     /// Gives the searches that follow another budget.
-    pub fn set_budget(&mut self, budget: u32)
+    pub(crate) fn set_budget(&mut self, budget: u32)
         ensures { self.new ≡ record self.old { budget = budget } }
     {
         self.budget = budget;

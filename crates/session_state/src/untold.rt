@@ -1,18 +1,17 @@
 //! The refusal of a row of which nothing is told: what `explain` and `against` refuse, and what a search for all rows stops at.
 
 ghost use Rattle.cqa_value.specs.declared.memory.Fail.TheVariants.{Refused};
-ghost use Rattle.session_state.specs.Untold.{RefusesRow, RefusesStop};
+ghost use Rattle.session_state.specs.Untold.{RefusesRow};
 
 use crate::state::SessionState;
 use cqa_value::{Fail, NoMemory, Row};
-use part_search::Stop;
 use refusals::Refusal;
 use repair_back::Untold;
 use reply_text::Proof;
 use std::alloc::Global;
 
 /// The refusal of a row. Where the budget is used up, the row's formula is kept with the spent log.
-fn refusal_of(session: &mut SessionState, row: Row, stop: Untold) -> Refusal
+pub fn refusal_of(session: &mut SessionState, row: Row, stop: Untold) -> Refusal
     ensures { RefusesRow session.old row stop (Refused result) session.new }
 {
     match stop {
@@ -22,16 +21,6 @@ fn refusal_of(session: &mut SessionState, row: Row, stop: Untold) -> Refusal
             session.keep_log(Proof { cnf, log });
             Refusal::Spent { row, conflicts }
         }
-    }
-}
-
-/// The refusal of the row at which a search for all rows stopped.
-pub fn refuse_stop(session: &mut SessionState, stop: Stop) -> Refusal
-    ensures { RefusesStop session.old stop result session.new }
-{
-    match stop {
-        Stop::Over(row) => refusal_of(session, row, Untold::Over),
-        Stop::Spent { row, cnf, log } => refusal_of(session, row, Untold::Spent { cnf, log }),
     }
 }
 

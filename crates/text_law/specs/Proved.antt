@@ -1,4 +1,4 @@
--- A certificate that is printed.
+-- A certificate that is replied to a `prove`.
 use Rattle.std.specs.Prelude.{ℕ, List, Option}
 use Rattle.cqa_value.specs.declared.value.Value.{Value}
 use Rattle.spj_syntax.specs.declared.tree.Select.{Select}

@@ -1,4 +1,5 @@
-//! The laws of printed certificates, over the definitions alone. Each is what its function ensures, so the build proves it.
+//! The laws of certificates that are printed, or replied to a `prove`, over the definitions alone, those of the machine among them.
+//! Each is what its function ensures, so the build proves it.
 
 ghost use Rattle.text_law.specs.Printed.{PrintedIsVerified};
 ghost use Rattle.text_law.specs.Proved.{ProvedIsVerified};
