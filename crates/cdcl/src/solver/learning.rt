@@ -86,12 +86,11 @@ impl Solver {
         })?;
         self.force(index, asserted)?;
         if end == 0 {
-            self.attach_none(asserted)?;
+            self.attach_none(asserted)
         } else {
             let deepest = lit_at(self.trail.as_slice(), end - 1).opposite();
-            self.attach(asserted, deepest)?;
+            self.attach(asserted, deepest)
         }
-        Ok(())
     }
 
     /// Jumps back as far as a learnt clause says, and adds the clause.
@@ -109,8 +108,7 @@ impl Solver {
         let lits = Vec::from_slice(alloc, learnt.lits.as_slice())?;
         self.leave_level();
         self.backjump(learnt.end);
-        self.add_learnt(lits, learnt.asserted, learnt.end)?;
-        Ok(())
+        self.add_learnt(lits, learnt.asserted, learnt.end)
     }
 
     /// Learns from a conflict above level 0, and jumps back.

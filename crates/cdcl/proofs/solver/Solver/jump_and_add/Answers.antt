@@ -1,5 +1,6 @@
 use Rattle.std.proofs.Common.{◌∙◌, List, sym, subst, arith}
 use Rattle.std.specs.Prelude.{Contains, take}
+use Rattle.std.proofs.lemmas.Result.{IfOk-weaker}
 use Rattle.cnf_form.specs.declared.formula.Lit.{Lit}
 use Rattle.cdcl.specs.Settled.{IsSettledClause}
 use Rattle.search_trail.specs.Trail.{held, AllLow}
@@ -36,4 +37,5 @@ add_learnt-requires-clause-last c k e =
 
 pub returns-clause-line : goal.returns-clause-line
 returns-clause-line c =
-    (learn_facts c.args.self.now c.leave_level.new.self c.backjump.new.self c.args.learnt.now c.requires.ready.watchful c.requires.learnt c.leave_level.ensures.leave c.backjump.ensures.fewer c.backjump.ensures.kept).line
+    let f = learn_facts c.args.self.now c.leave_level.new.self c.backjump.new.self c.args.learnt.now c.requires.ready.watchful c.requires.learnt c.leave_level.ensures.leave c.backjump.ensures.fewer c.backjump.ensures.kept in
+    IfOk-weaker c.add_learnt.result _ _ (λ _ _. f.line) c.add_learnt.ensures.ready
