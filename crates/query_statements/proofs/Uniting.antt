@@ -1,20 +1,16 @@
 -- What is answered to unions.
 use Rattle.std.proofs.Common.{◌≡◌, List, None, Result, refl, sym, subst}
 use Rattle.cqa_value.specs.declared.memory.Fail.{Fail}
-use Rattle.cqa_value.specs.declared.memory.Fail.TheVariants as fails
 use Rattle.cqa_model.specs.declared.query.Query.{Query}
 use Rattle.refusals.specs.declared.refusal.Refusal.{Refusal}
 use Rattle.spj_syntax.specs.declared.tree.Select.{Select}
 use Rattle.query_resolve.specs.Checks.{union_fault}
 use Rattle.query_resolve.specs.Resolved.{AreQueriesOf}
-use Rattle.repair_back.specs.declared.reason.Reason.TheVariants as reasons
-use Rattle.repair_back.specs.declared.reason.Untold.TheVariants as untold
 use Rattle.part_search.specs.declared.searched.Stop.{Stop}
 use Rattle.part_search.specs.declared.searched.Stop.TheVariants as stops
 use Rattle.union_ask.specs.Searching.{IsSpentIn, IsStopIn}
 use Rattle.reply_text.specs.declared.reply.Proof.{Proof}
 use Rattle.reply_text.specs.declared.reply.Reply.{Reply}
-use Rattle.reply_text.specs.declared.reply.Reply.TheVariants as replies
 use Rattle.session_state.specs.State.{State}
 use Rattle.session_state.specs.Replying.{Replies, IsReplyOutcome}
 use Rattle.query_statements.specs.Stopped.{RefusesStop}

@@ -13,7 +13,6 @@ use Rattle.query_resolve.specs.Resolved.{AreQueriesOf}
 use Rattle.repair_back.specs.declared.reason.Reason.TheVariants as reasons
 use Rattle.repair_back.specs.declared.reason.Untold.{Untold}
 use Rattle.repair_back.specs.declared.reason.Untold.TheVariants as untold
-use Rattle.part_search.specs.declared.searched.Stop.TheVariants as stops
 use Rattle.union_ask.specs.Reasons.{IsReasonIn, IsUntoldIn}
 use Rattle.union_ask.specs.Searching.{IsSpentIn}
 use Rattle.reply_text.specs.declared.reply.Proof.{Proof}
