@@ -1,10 +1,10 @@
 //! A table of a number and a text, which are its key in the other order.
-//! Its rows are found by first key values and by their blocks.
+//! Its rows are found by first key values, by their blocks and as wholes.
 ghost use Rattle.std.specs.Prelude.{◌≡◌, ◌+◌, ◌<◌, ◌≤◌, length};
 ghost use Rattle.table_blocks.specs.Tables.{key_at, rows_at};
 
 use crate::making::database;
-use cqa_value::{Name, Value};
+use cqa_value::{Name, Row, Value};
 use row_order::Probe;
 use std::alloc::Global;
 use std::marker::Brand;
@@ -37,6 +37,17 @@ fn block<L: Ledger>(db: &Database, probe: &Probe<'_>, steps: &mut Steps<L>) -> u
     db.block(0, probe, steps).len()
 }
 
+/// The place of the row with a number and a text.
+fn place(alloc: Global, db: &Database, number: i64, text: &Value) -> Option<u32>
+    requires { 0 < length db.now }
+{
+    let text = text.copy(alloc).ok()?;
+    let mut row = Row::new(alloc);
+    row.push(Value::Int(number)).ok()?;
+    row.push(text).ok()?;
+    db.place_of(0, &row)
+}
+
 /// A first key value, a second one, and the place and the number of the rows that have the first, and both.
 type Case = (&'static str, i64, (u32, usize), (u32, usize));
 
@@ -51,8 +62,14 @@ const CASES: [Case; 8] = [
     ("zz", 4, (5, 0), (5, 0)),
 ];
 
-/// Whether that is found.
-fn is_found<L: Ledger>(db: &Database, first: &Value, case: &Case, blank: Blank) -> bool
+/// Whether that is found, and the row of both, where there is one.
+fn is_found<L: Ledger>(
+    alloc: Global,
+    db: &Database,
+    first: &Value,
+    case: &Case,
+    blank: Blank,
+) -> bool
     requires name { blank.name ≡ L.name }
     requires parts { blank.parts ≡ L.parts }
     requires some { 0 < blank.parts }
@@ -68,7 +85,12 @@ fn is_found<L: Ledger>(db: &Database, first: &Value, case: &Case, blank: Blank) 
     probe.put(&second);
     let both = span(db, &probe, &mut steps);
     let count = block(db, &probe, &mut steps);
-    one == Some(case.2) && both == Some(case.3) && count == case.3.1
+    let (at, number) = case.3;
+    let whole = if number == 1 { Some(at) } else { None };
+    one == Some(case.2)
+        && both == Some(case.3)
+        && count == number
+        && place(alloc, db, case.1, first) == whole
 }
 
 /// The same, with its first key value.
@@ -76,7 +98,7 @@ fn is_case_found(alloc: Global, db: &Database, case: &Case) -> bool {
     match Name::from_bytes(alloc, case.0.as_bytes()) {
         Ok(name) => {
             let first = Value::Text(name);
-            let right = is_found::<Brand>(db, &first, case, Blank::new(1));
+            let right = is_found::<Brand>(alloc, db, &first, case, Blank::new(1));
             drop(first);
             right
         }
