@@ -6,7 +6,7 @@
 For each script the number of allocations of a run is counted. Then the script is run again for each of them, with this one
 allocation refused, and once more with this one and all after it refused. Such a run has to end with status 5 after a front
 of the output, or with the output and the status of a run that isn't refused any. A file NAME.lrat or NAME.rewriting is checked, and not run.
-Without scripts, fifteen of the tests are run, a formula with its refutation and two certificates are checked, and `demo 1` is run. The last line says
+Without scripts, nineteen of the tests are run, a formula with its refutation and two certificates are checked, and `demo 1` is run. The last line says
 whether all runs ended so; the status is 0 then. A C compiler is needed, for a library of a few lines that is put before the
 program's allocator, and a program that is linked to the C library when it starts.
 """
@@ -25,11 +25,11 @@ OUT_OF_MEMORY = 5
 
 FILES = ["certain_answers.cqa", "disputed_rows.cqa", "rows_against.cqa", "conflicts_of_tables.cqa", "prefer.cqa", "searches.cqa", "dumps.cqa",
          "explains_by_search.cqa", "explains_by_plans.cqa", "ranges.cqa", "ranges_of_values.cqa", "join_ranges.cqa", "copies.cqa",
-         "changed_keys.cqa", "sql_of_worked_queries.cqa", "proof_of_a_bigger_formula.lrat",
+         "changed_keys.cqa", "sql_of_worked_queries.cqa", "certificates.cqa", "unions.cqa", "pairs.cqa", "merged_lists.cqa", "proof_of_a_bigger_formula.lrat",
          "certificate_of_a_join.rewriting", "certificate_with_a_block_again_without_a_row.rewriting"]
 """Rows through one block and through different ones, disputed ones, what stands against rows, conflicts that are counted and settled,
-dumps, refutations, plans with mended repairs, ranges over a table and over joins, blocks of CSV, other keys, queries in SQL, a
-refutation that is checked, and certificates."""
+dumps, refutations, plans with mended repairs, ranges over a table and over joins, blocks of CSV, other keys, queries in SQL, certificates that are printed, unions, weak pairs,
+merged lists, a refutation that is checked, and certificates that are."""
 
 DEMO = ["demo", "1"]
 

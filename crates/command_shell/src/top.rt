@@ -75,7 +75,7 @@ fn command(words: &[String]) -> Option<Command>
 /// words that aren't accepted, 3 and 4 for a fault of the source or the sink, 5 where memory runs out, 6 for an input that
 /// is too long.
 ///
-/// For every list of words and every input, the status and the bytes written are those of a machine that holds its tables as plain lists of rows: each answered ask gives exactly the rows that every repair gives, each once and ascending, each range has the ends of its definition, each explanation is true by its own, and each refusal has its named cause and changes nothing, except that a spent search keeps its log.
+/// For every list of words and every input, the status and the bytes written are those of a machine that holds its tables as plain lists of rows: each answered ask gives exactly the rows that every repair gives, each once and ascending, each range, whole or by groups, has the ends of its definition, each explanation is true by its own, the rows that stand against a row rule it out, and none of them can be left out, and each refusal has its named cause and changes nothing, except that a spent search keeps its log.
 pub fn run_words<S: Source, K: Sink>(
     alloc: Global,
     words: &[String],

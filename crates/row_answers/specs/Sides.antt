@@ -9,7 +9,7 @@ use Rattle.cqa_model.specs.Certain.{IsCertain, IsPossible, IsCertainAnswer}
 use Rattle.row_answers.specs.declared.side.Side.{Side}
 use Rattle.row_answers.specs.declared.side.Side.TheVariants.{Certain, Disputed}
 
--- some repair holds a witness of the row, and some repair holds none
+-- some repair holds a witness of the row, and not every repair does
 abbrev pub IsDisputed : List Table → Query → List Value → Type 0
 IsDisputed db q row = IsPossible db q row × (IsCertain db q row → ⊥)
 
