@@ -5,6 +5,8 @@ at one place.
     tools/definitions.py          says whether the page is as it would be made (status 1 if it isn't)
     tools/definitions.py write    makes it
 
+It also says whether README's headline is the one that stands at the call that carries it.
+
 A section `## CRATE: ..` begins with words of its own. All from its first line `**..** [FILE]` on is made: for each file of
 `crates/CRATE/specs` its first comment, and a row for each public definition with the comment right above it. A definition
 without one is so short that it stands there itself, by its equation or its type.
@@ -65,7 +67,16 @@ def page(text):
     return re.sub(r"\n\n\n+", "\n\n", "".join(made)).rstrip("\n") + "\n"
 
 
+def headline(path, mark):
+    """The lines of a file that begin with a mark and the headline's first words, without the mark."""
+    with open(os.path.join(TOP, path), encoding="utf-8") as file:
+        return [line[len(mark):] for line in file.read().split("\n") if line.startswith(mark + "For every list of words")]
+
+
 def main():
+    if headline("README.md", "> ") != headline("crates/command_shell/src/top.rt", "/// "):
+        print("README's headline isn't the one of run_words in crates/command_shell/src/top.rt")
+        return 1
     with open(PAGE, encoding="utf-8") as file:
         text = file.read()
     crates = [os.path.basename(os.path.dirname(specs)) for specs in glob.glob(os.path.join(TOP, "crates", "*", "specs"))]
