@@ -1,0 +1,24 @@
+//! Lists of rows of blocks that are told by their sizes alone: whether each choice of a row of each block holds one of them whole.
+//! No table stands in it.
+#![tactic(auto)]
+
+mod clauses;
+mod formula;
+mod judging;
+pub mod laws;
+mod numbers;
+mod picks;
+mod pool;
+mod proving;
+mod room;
+mod row;
+mod walking;
+
+pub use formula::formula_of;
+pub use judging::{Judged, judge};
+pub use picks::fill_choice;
+pub use pool::Lists;
+pub use proving::{Proved, prove};
+pub use room::Room;
+pub use row::{BlockRow, MOST_GROUP_LISTS, MOST_GROUP_ROWS};
+pub use walking::{MOST_LOOKS, Walked, walk};
