@@ -1,14 +1,19 @@
 -- The formula of lists of rows of blocks decides as choices do.
-use Rattle.std.proofs.Common.{◌≡◌, ℕ, zero, suc, ◌<◌, ◌≤◌, ◌+◌, ◌-◌, ◌⊎◌, inl, inr, List, [], ◌∷◌, ◌++◌, length, get_or, map, Option, Some, None, slice_get, refl, sym, ◌∙◌, ap, subst, arith, Contains, Bool, true, false}
+use Rattle.std.proofs.Common.{◌≡◌, ℕ, zero, suc, ◌<◌, ◌≤◌, ◌+◌, ◌-◌, ◌⊎◌, inl, inr, List, [], ◌∷◌, ◌++◌, length, get_or, map, take, drop, suc-le-suc, Option, Some, None, slice_get, refl, sym, ◌∙◌, ap, subst, arith, Contains, Bool, true, false}
 use native.Mathlib.Decide.{ℕ_discrete}
 use Rattle.std.specs.List.{AllZip, range_with_len}
+use Rattle.std.proofs.lemmas.List.{get_or-drop}
 use Rattle.std.proofs.lemmas.List.Elements.{Contains-append_left, Contains-append_right, Contains-append_cases}
 use Rattle.cqa_value.proofs.Words.{clash, is_yes, yes_of, no_of, mem-head, mem-tail, mem-nil, mem-cases, Contains-map, Contains-from_map, Contains-range, in_range}
 use Rattle.cnf_form.specs.declared.formula.Lit.{Lit}
-use Rattle.cnf_form.specs.Literals.{positive, negative, MakesTrue, Satisfies, SatisfiesAll}
+use Rattle.cnf_form.specs.Literals.{literals, positive, negative, MakesTrue, Satisfies, SatisfiesAll}
 use Rattle.block_lists.specs.declared.row.BlockRow.{BlockRow}
-use Rattle.block_lists.specs.Choices.{IsChoice, Chooses, HoldsWhole, HoldsSome, IsForcedBy}
-use Rattle.block_lists.specs.Formulas.{number, blocks_from, AreNumbersIn, group_clauses, AreThere, GroupDecides}
+use Rattle.block_lists.specs.Choices.{IsChoice, Chooses, HoldsWhole, HoldsSome, IsForcedBy, AreThere}
+use Rattle.block_lists.specs.Formulas.{number, blocks_from, AreNumbersIn, group_clauses, IsGroupFormula}
+use Rattle.block_lists.specs.Picks.{first_true, first_trues}
+use Rattle.block_lists.specs.Laws.{GroupDecides, PicksAvoid}
+use Rattle.cnf_form.specs.declared.formula.Cnf.{Cnf}
+use Rattle.cdcl.specs.Outcomes.{IsModel, assignment}
 use Rattle.block_lists.proofs.Decisions.{Option-dec, stable, dec_each, dec_some, find_in}
 
 -- ---- numbers
@@ -36,7 +41,7 @@ zip-right R (z ∷ xs) (y ∷ ys) h x m = elim (mem-cases x z xs m) [
   | inr i ↦ let k = zip-right R xs ys h.1 x i in (k.0, mem-tail k.0 y ys k.1, k.2)
 ]
 
-zip-left : {A B : Type 0} (R : A → B → Type 0) (xs : List A) (ys : List B) → AllZip R xs ys → (y : B) → Contains ys y → (x : A) × Contains xs x × R x y
+pub zip-left : {A B : Type 0} (R : A → B → Type 0) (xs : List A) (ys : List B) → AllZip R xs ys → (y : B) → Contains ys y → (x : A) × Contains xs x × R x y
 zip-left R xs [] h y m = absurd (mem-nil y m)
 zip-left R [] (z ∷ ys) h y m = absurd h
 zip-left R (x ∷ xs) (z ∷ ys) h y m = elim (mem-cases y z ys m) [
@@ -69,6 +74,35 @@ nil = []
 
 none-some : (b r : ℕ) → slice_get nil b ≡ Some r → ⊥
 none-some b r e = cc
+
+-- the first true row of a block that has one
+first : (s : ℕ) (values : List Bool) (r : ℕ) → r < s → get_or values r false ≡ true → (first_true (take s values) < s) × (get_or values (first_true (take s values)) false ≡ true)
+first zero values r l e = absurd (omega (arith, l))
+first (suc s) [] r l e = absurd (clash false e refl)
+first (suc s) (true ∷ values) r l e = (omega arith, refl)
+first (suc s) (false ∷ values) zero l e = absurd (clash false e refl)
+first (suc s) (false ∷ values) (suc r) l e = let h = first s values r (omega (arith, l)) e in (suc-le-suc h.0, h.1)
+
+-- the values of the rows, where n variables come before
+abbrev pub AreValues : (ℕ → Bool) → ℕ → List Bool → Type 0
+AreValues v n values = (i : ℕ) → v (suc (n + i)) ≡ get_or values i false
+
+-- the first true rows are a choice
+pub firsts : (v : ℕ → Bool) (n : ℕ) (sizes : List ℕ) (values : List Bool) → AreValues v n values → ((numbers : List ℕ) → Contains (blocks_from n sizes) numbers → Satisfies v (map positive numbers)) →
+    IsChoice sizes (first_trues sizes values) × AreTrue v n sizes (first_trues sizes values)
+firsts v n [] values is sat = (tt, λ b r e. absurd (none-some b r e))
+firsts v n (s ∷ sizes) values is sat =
+    let one = of_block v n s (sat (range_with_len (suc n) s) (mem-head (range_with_len (suc n) s) (blocks_from (n + s) sizes))) in
+    let here = first s values one.0 one.1 (sym (is one.0) ∙ one.2) in
+    let rest = firsts v (n + s) sizes (drop s values) later (λ ns m. sat ns (mem-tail ns (range_with_len (suc n) s) (blocks_from (n + s) sizes) m)) in
+    ((here.0, rest.0), at here.1 rest.1)
+  where
+    later : AreValues v (n + s) (drop s values)
+    later i = let e : suc (n + s + i) ≡ suc (n + (s + i)) = omega arith in ap v e ∙ (is (s + i) ∙ sym (get_or-drop s values i false))
+
+    at : get_or values (first_true (take s values)) false ≡ true → AreTrue v (n + s) sizes (first_trues sizes (drop s values)) → (b r : ℕ) → slice_get (first_trues (s ∷ sizes) values) b ≡ Some r → v (number n (s ∷ sizes) b r) ≡ true
+    at here rest zero r e = subst (λ m. v (suc (n + m)) ≡ true) (some-inj (first_true (take s values)) r e) (is (first_true (take s values)) ∙ here)
+    at here rest (suc b) r e = rest b r e
 
 picked : (v : ℕ → Bool) (n : ℕ) (sizes : List ℕ) → ((numbers : List ℕ) → Contains (blocks_from n sizes) numbers → Satisfies v (map positive numbers)) → (c : List ℕ) × IsChoice sizes c × AreTrue v n sizes c
 picked v n [] sat = ([], tt, λ b r e. absurd (none-some b r e))
@@ -110,26 +144,28 @@ in_block n (s ∷ sizes) (r ∷ c) k numbers i = elim (mem-cases numbers (range_
   | inr j ↦ let h = in_block (n + s) sizes c k.1 numbers j in (h.0, h.1, mem-tail h.0 (suc (n + r)) (chosen_numbers (n + s) sizes c) h.2)
 ]
 
-module _ (sizes : List ℕ) (lists : List (List BlockRow)) (numbers : List (List ℕ)) (there : AreThere sizes lists) (zip : AllZip (AreNumbersIn sizes) lists numbers) where
-  unsatisfied : IsForcedBy sizes lists → (v : ℕ → Bool) → SatisfiesAll v (group_clauses sizes numbers) → ⊥
-  unsatisfied forced v sat = held (forced c.0 c.1)
+module _ (sizes : List ℕ) (lists : List (List BlockRow)) (numbers : List (List ℕ)) (zip : AllZip (AreNumbersIn sizes) lists numbers) (v : ℕ → Bool) (sat : SatisfiesAll v (group_clauses sizes numbers)) where
+  of_blocks : (ns : List ℕ) → Contains (blocks_from 0 sizes) ns → Satisfies v (map positive ns)
+  of_blocks ns m = sat (map positive ns) (Contains-append_left (map (map positive) (blocks_from 0 sizes)) (map (map negative) numbers) (map positive ns) (Contains-map (map positive) (blocks_from 0 sizes) ns m))
+
+  -- true rows hold no list whole
+  not_held : (c : List ℕ) → AreTrue v 0 sizes c → HoldsSome c lists → ⊥
+  not_held c are_true (names, m, whole) = of_numbers (zip-right (AreNumbersIn sizes) lists numbers zip names m)
     where
-      c : (c : List ℕ) × IsChoice sizes c × AreTrue v 0 sizes c
-      c = picked v 0 sizes (λ ns m. sat (map positive ns) (Contains-append_left (map (map positive) (blocks_from 0 sizes)) (map (map negative) numbers) (map positive ns) (Contains-map (map positive) (blocks_from 0 sizes) ns m)))
-
-      held : HoldsSome c.0 lists → ⊥
-      held (names, m, whole) = of_numbers (zip-right (AreNumbersIn sizes) lists numbers zip names m)
+      of_numbers : ((ns : List ℕ) × Contains numbers ns × AreNumbersIn sizes names ns) → ⊥
+      of_numbers (ns, mn, are) = of_lit (sat (map negative ns) (Contains-append_right (map (map positive) (blocks_from 0 sizes)) (map (map negative) numbers) (map negative ns) (Contains-map (map negative) numbers ns mn)))
         where
-          of_numbers : ((ns : List ℕ) × Contains numbers ns × AreNumbersIn sizes names ns) → ⊥
-          of_numbers (ns, mn, are) = of_lit (sat (map negative ns) (Contains-append_right (map (map positive) (blocks_from 0 sizes)) (map (map negative) numbers) (map negative ns) (Contains-map (map negative) numbers ns mn)))
-            where
-              of_lit : Satisfies v (map negative ns) → ⊥
-              of_lit (l, ml, e) =
-                  let p = Contains-from_map negative ns l ml in
-                  let no : v p.0 ≡ false = subst (MakesTrue v) (sym p.2) e in
-                  let x = (are.exactly p.0).0 p.1 in
-                  clash (v p.0) (subst (λ k. v k ≡ true) x.2 (c.2 x.0.block x.0.row (whole x.0 x.1))) no
+          of_lit : Satisfies v (map negative ns) → ⊥
+          of_lit (l, ml, e) =
+              let p = Contains-from_map negative ns l ml in
+              let no : v p.0 ≡ false = subst (MakesTrue v) (sym p.2) e in
+              let x = (are.exactly p.0).0 p.1 in
+              clash (v p.0) (subst (λ k. v k ≡ true) x.2 (are_true x.0.block x.0.row (whole x.0 x.1))) no
 
+  unsatisfied : IsForcedBy sizes lists → ⊥
+  unsatisfied forced = let c = picked v 0 sizes of_blocks in not_held c.0 c.2 (forced c.0 c.1)
+
+module _ (sizes : List ℕ) (lists : List (List BlockRow)) (numbers : List (List ℕ)) (there : AreThere sizes lists) (zip : AllZip (AreNumbersIn sizes) lists numbers) where
   forced_of : ((v : ℕ → Bool) → SatisfiesAll v (group_clauses sizes numbers) → ⊥) → IsForcedBy sizes lists
   forced_of unsat c k = stable (dec_some (HoldsWhole c) (λ names. dec_each (Chooses c) (λ x. Option-dec (slice_get c x.block) x.row) names) lists) (λ none. unsat v (satisfied none))
     where
@@ -169,4 +205,22 @@ module _ (sizes : List ℕ) (lists : List (List BlockRow)) (numbers : List (List
                       subst (Satisfies v) e (negative n, Contains-map negative ns n ((are.exactly n).1 (x, mx, refl)), no_of (dec_chosen n) (λ h. f (is_chosen x (there names mn x mx) h)))
 
 pub group_decides : GroupDecides
-group_decides sizes lists numbers there zip = (unsatisfied sizes lists numbers there zip, forced_of sizes lists numbers there zip)
+group_decides sizes lists cnf there f = (
+  λ forced v sat. unsatisfied sizes lists f.numbers f.numbered v (subst (SatisfiesAll v) f.clauses sat) forced,
+  λ none. forced_of sizes lists f.numbers there f.numbered (λ v sat. none v (subst (SatisfiesAll v) (sym f.clauses) sat)),
+)
+
+pub picks_avoid : PicksAvoid
+picks_avoid sizes lists cnf values f m = record { choice = c.0; avoids = not_held sizes lists f.numbers f.numbered v sat (first_trues sizes values) c.1 }
+  where
+    v : ℕ → Bool
+    v = assignment values
+
+    sat : SatisfiesAll v (group_clauses sizes f.numbers)
+    sat = subst (SatisfiesAll v) f.clauses m.1
+
+    are : AreValues v 0 values
+    are i = ap (λ (k : ℕ). get_or values k false) (omega arith)
+
+    c : IsChoice sizes (first_trues sizes values) × AreTrue v 0 sizes (first_trues sizes values)
+    c = firsts v 0 sizes values are (of_blocks sizes lists f.numbers f.numbered v sat)

@@ -1,6 +1,12 @@
--- Stretches: a pool that grows. Choosing: choices in order, and what a walk keeps. Decisions, Deciding, Each: what a group decides. Numbers to Picks: its formula and the choice of a model.
+-- Stretches: a pool that grows. Choosing: choices in order, and what a walk keeps. Decisions, Deciding, Each: what a group decides.
+-- Bases, Rising: its formula. Picking: the choice of a model. Encoding: what the solver says of a group.
 pub mod Stretches
 pub mod Choosing
 pub mod Decisions
 pub mod Deciding
 pub mod Each
+pub mod Bases
+pub mod Rising
+pub mod Picking
+pub mod Encoding
+pub mod Wider
