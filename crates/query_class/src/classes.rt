@@ -8,16 +8,12 @@ ghost use Rattle.cqa_model.specs.Graph.{IsCyclic, IsStronglyCyclic};
 ghost use Rattle.key_closure.specs.declared.view.View.{View};
 ghost use Rattle.key_closure.specs.Members.{seen};
 ghost use Rattle.attack_graph.specs.Attacking.{AreAttacks, HasAttack, HasWeakAttack};
-ghost use Rattle.query_class.specs.Cycles.{
-  IsClass,
-  IsClassOf,
-  IsStrong,
-  Reaches,
-};
+ghost use Rattle.query_class.specs.Cycles.{IsClass, IsClassOf, IsStrong, Reaches};
 
 use crate::walking::reach;
 use attack_graph::Attacks;
-use cqa_model::{Class, MOST_ATOMS};
+use complexity_class::Class;
+use cqa_model::MOST_ATOMS;
 
 /// The class of a graph of attacks, and so of each query, and of each view of one, whose attacks they are.
 pub fn class_of(graph: &Attacks) -> Class
