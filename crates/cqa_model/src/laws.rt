@@ -1,6 +1,21 @@
 //! The laws of certain answers, over the definitions alone. Each is what its function ensures.
 
-ghost use Rattle.cqa_model.specs.Laws.{AttacksStay, CertainOrRejected, CertainOverOne, EliminationIsExact, FormulaIsExact, KeysByBlock, KeysGo, NoAttackComes, PlanOrCycle, PossibleIsCandidate, RewritingIsExact, StrictAttacksNothing, WitnessesAgree, WitnessesStay};
+ghost use Rattle.cqa_model.specs.Laws.{
+  AttacksStay,
+  CertainOrRejected,
+  CertainOverOne,
+  EliminationIsExact,
+  FormulaIsExact,
+  KeysByBlock,
+  KeysGo,
+  NoAttackComes,
+  PlanOrCycle,
+  PossibleIsCandidate,
+  RewritingIsExact,
+  StrictAttacksNothing,
+  WitnessesAgree,
+  WitnessesStay,
+};
 
 /// Each elimination order of a query holds exactly where the row is certain.
 pub fn elimination_is_exact()

@@ -6,7 +6,15 @@ ghost use Rattle.cqa_model.specs.declared.limits.TheConstants.{COLUMN_NUMBERS, M
 ghost use Rattle.cqa_model.specs.declared.query.Op.TheVariants.{Eq};
 ghost use Rattle.cqa_model.specs.Variables.{number};
 ghost use Rattle.cqa_model.specs.Labels.{relabel};
-ghost use Rattle.cqa_model.specs.Naming.{AreClasses, AreSmallColumns, AreSmallTests, AreVariables, IsAnswerClass, IsMarked, IsTestClass};
+ghost use Rattle.cqa_model.specs.Naming.{
+  AreClasses,
+  AreSmallColumns,
+  AreSmallTests,
+  AreVariables,
+  IsAnswerClass,
+  IsMarked,
+  IsTestClass,
+};
 
 use crate::{COLUMN_NUMBERS, ColRef, Cond, MOST_COLUMNS, Op, Query, Variables};
 

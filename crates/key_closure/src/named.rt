@@ -21,7 +21,19 @@ impl Named<'_> {
     ghost use Rattle.cqa_model.specs.Variables.{IsKeyVar, IsVar, after as view_after};
     ghost use Rattle.cqa_model.specs.Closures.{InClosure};
     ghost use Rattle.key_closure.specs.Sets.{Has, HasAtom};
-    ghost use Rattle.key_closure.specs.Members.{AreSame, IsAmong, IsFreeClass, IsIn, IsKeyClass, IsLeft, IsProper, IsReady, IsSetOf, IsVarClass, seen};
+    ghost use Rattle.key_closure.specs.Members.{
+      AreSame,
+      IsAmong,
+      IsFreeClass,
+      IsIn,
+      IsKeyClass,
+      IsLeft,
+      IsProper,
+      IsReady,
+      IsSetOf,
+      IsVarClass,
+      seen,
+    };
 
     /// key(F): the variables of an atom's key columns that are neither constants nor fixed.
     pub fn key_set(&self, atom: u32) -> VarSet

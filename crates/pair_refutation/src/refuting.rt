@@ -7,7 +7,23 @@ ghost use Rattle.cnf_form.specs.Logs.{Refutes, AreConsecutive};
 ghost use Rattle.weak_pairs.specs.Peeling.{AreBlocked, IsBlockNumber, IsForced};
 ghost use Rattle.pair_refutation.specs.Graph.{AreAdjacent};
 ghost use Rattle.pair_refutation.specs.Formulas.{IsPairFormula, IsReadTo, IsUnsatisfiable};
-ghost use Rattle.pair_refutation.specs.Refuting.{AreBlocksOf, AreChains, AreHintsOf, AreMarked, IsChainedTo, IsLeftOf, IsLost, IsMet, IsSoFar, Keeps, MeetsAlike, StayLost, left_literals, lost_hints, option_at};
+ghost use Rattle.pair_refutation.specs.Refuting.{
+  AreBlocksOf,
+  AreChains,
+  AreHintsOf,
+  AreMarked,
+  IsChainedTo,
+  IsLeftOf,
+  IsLost,
+  IsMet,
+  IsSoFar,
+  Keeps,
+  MeetsAlike,
+  StayLost,
+  left_literals,
+  lost_hints,
+  option_at,
+};
 
 use crate::chains::{Chains, before, chain_pairs, has_pair, other};
 use crate::{Graph, outcome, read};

@@ -8,7 +8,12 @@ ghost use Rattle.cqa_model.specs.Graph.{IsCyclic, IsStronglyCyclic};
 ghost use Rattle.key_closure.specs.declared.view.View.{View};
 ghost use Rattle.key_closure.specs.Members.{seen};
 ghost use Rattle.attack_graph.specs.Attacking.{AreAttacks, HasAttack, HasWeakAttack};
-ghost use Rattle.query_class.specs.Cycles.{IsClass, IsClassOf, IsStrong, Reaches};
+ghost use Rattle.query_class.specs.Cycles.{
+  IsClass,
+  IsClassOf,
+  IsStrong,
+  Reaches,
+};
 
 use crate::walking::reach;
 use attack_graph::Attacks;
