@@ -9,7 +9,7 @@ ghost use Rattle.cqa_model.specs.Query.{atom_at};
 ghost use Rattle.cqa_model.specs.Plan.{TestHolds};
 ghost use Rattle.row_order.specs.Spans.{first_key};
 ghost use Rattle.plan_rows.specs.Taking.{placed};
-ghost use Rattle.plan_rows.specs.Fitting.{ColumnAgrees, AgreesAll, GivesAt};
+ghost use Rattle.plan_rows.specs.Fitting.{ColumnAgrees, AgreesAll, GivesCandidate};
 ghost use Rattle.plan_rows.specs.Knowing.{MayFit};
 ghost use Rattle.plan_rows.specs.Over.{look_query, look_taken};
 
@@ -48,7 +48,7 @@ fn told(conds: &[Cond], column: ColRef) -> Option<&Value>
 
 /// The value that a row of an atom tells of a column: that of its own column which is linked to it.
 fn told_by_row<'b>(
-    setting: &Setting<'_>,
+    setting: &Setting<'_, '_>,
     other: u32,
     row: &'b Row,
     column: ColRef,
@@ -69,7 +69,11 @@ fn told_by_row<'b>(
 }
 
 /// The value that some row taken tells of a column.
-fn told_by_taken<'b>(setting: &Setting<'_>, taken: &Taken<'b>, column: ColRef) -> Option<&'b Value>
+fn told_by_taken<'b>(
+    setting: &Setting<'_, '_>,
+    taken: &Taken<'b>,
+    column: ColRef,
+) -> Option<&'b Value>
     requires { IsInRange setting.now.bound.now.query.now.atoms column }
     ensures { IfSome result (λ value. (y : List Cell) → AgreesAll setting.now.bound.now.query.now column.atom y (placed taken.now) → slice_index_or y column.col nothing ≡ value.now) }
 {
@@ -84,7 +88,7 @@ fn told_by_taken<'b>(setting: &Setting<'_>, taken: &Taken<'b>, column: ColRef) -
 
 /// The value that a candidate tells of a column of the answer.
 fn told_by_answer<'b>(query: &Query, row: &'b Row, column: ColRef) -> Option<&'b Value>
-    ensures { IfSome result (λ value. (y : List Cell) → GivesAt query.now column.atom y row.now → slice_index_or y column.col nothing ≡ value.now) }
+    ensures { IfSome result (λ value. (y : List Cell) → GivesCandidate query.now column.atom y row.now → slice_index_or y column.col nothing ≡ value.now) }
 {
     let columns = query.answer.as_slice();
     for at in 0..columns.len() as u32 {
