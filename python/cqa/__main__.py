@@ -8,12 +8,12 @@ import os
 import sys
 from typing import Callable, Dict, Sequence
 
-from . import helping, loading, looking, report, running, shell
+from . import helping, load_command, looking, report, running, shell
 from .errors import CqaError, Ended, NotBuilt
 from .files import said
 
 COMMANDS: Dict[str, Callable[[Sequence[str]], int]] = {
-    "load": loading.main,
+    "load": load_command.main,
     "run": running.main,
     "csv": looking.csv_main,
     "conflicts": looking.conflicts_main,
@@ -28,9 +28,13 @@ def main(words: Sequence[str]) -> int:
     for stream, errors in ((sys.stdin, "surrogateescape"), (sys.stdout, "surrogateescape"), (sys.stderr, "backslashreplace")):
         if isinstance(stream, io.TextIOWrapper):
             stream.reconfigure(encoding="utf-8", errors=errors)
+    said_commands = "cqa: the commands are %s; each tells its words by --help" % ", ".join(COMMANDS)
+    if words and words[0] in ("--help", "-h"):
+        print(said_commands)
+        return 0
     command = COMMANDS.get(words[0]) if words else None
     if command is None:
-        print("cqa: the commands are %s; each tells its words by --help" % ", ".join(COMMANDS), file=sys.stderr)
+        print(said_commands, file=sys.stderr)
         return 2
     try:
         status = command(words[1:])

@@ -6,9 +6,11 @@ import csv
 import datetime
 import functools
 import re
-from typing import Callable, List, Optional, Sequence, Set, Tuple
+from typing import Callable, List, Optional, Sequence, Tuple
 
+from .options import Form
 from .unseen import Unseen
+from .writing import NULL_WORDS, Writing, shown_word
 
 #: A fault or a note about the field of a record: the record's place in the piece, and what to say.
 Say = Callable[[int, str], None]
@@ -17,9 +19,8 @@ LONGEST_TEXT = 1024
 _LEAST, _GREATEST = -(2 ** 63), 2 ** 63 - 1
 _INT = re.compile(r"0|-?[1-9][0-9]*")
 _SHORT_INTS = re.compile(r"(?:(?:0|-?[1-9][0-9]{0,17})\n)*")
-_NUMBERS = re.compile(r"(?:-?(?:0|[1-9][0-9]*)(?:[.,][0-9]+)?\n)*")
-_MARKED = re.compile(r"([.,])([0-9]+)")
 _NUMBER = re.compile(r"[+-]?(?:[0-9]+(?:\.[0-9]*)?|\.[0-9]+)")
+_DATE = re.compile(r"([0-9]{1,4})([-./]) ?([0-9]{1,2})\2 ?([0-9]{1,4})")
 _TIME = re.compile(r"([0-9]{4}-[0-9]{2}-[0-9]{2})(?:T([0-9]{2}):([0-9]{2})(?::([0-9]{2})(\.[0-9]{1,9})?)?Z)?")
 
 _DROP = ", so that --missing keep doesn't fit the column: --missing drop leaves the record out"
@@ -64,14 +65,13 @@ class Column:
         self.kind = "int"
         self.note = ""
         self._mixes = is_there
-        self._are_numbers = True
-        self._marks: Set[str] = set()
-        self._most_places = 0
         self._too_great: List[Tuple[str, int, str]] = []
         self._unseen = Unseen()
+        self._writing = Writing()
 
-    def begin(self, mark: str) -> None:
-        """Begins a list. mark: what stands before the places of its numbers."""
+    def begin(self, form: Form, name: str) -> None:
+        """Begins a list. form: how it is written. name: what options call it."""
+        self._writing.begin(name, form.encoding)
 
     def take(self, fields: Sequence[str], where: Sequence[int], path: str, say: Say) -> Sequence[str]:
         """Looks at the fields of a piece of a list and gives what is written for them.
@@ -84,17 +84,11 @@ class Column:
             self._find_kind(fields, where, path)
         if self.kind == "text":
             self._unseen.look(fields, joined, where, path)
-        if self._are_numbers and self.kind == "text":
-            self._look_for_places(joined)
+            self._writing.look(fields, joined, where, path)
+        else:
+            self._writing.are_numbers()
         self._mixes = True
         return fields
-
-    def _look_for_places(self, joined: str) -> None:
-        """Sees whether the fields are numbers with places, which marks stand before these, and how many there are."""
-        self._are_numbers = _NUMBERS.fullmatch(joined) is not None
-        for mark, places in _MARKED.findall(joined) if self._are_numbers else ():
-            self._marks.add(mark)
-            self._most_places = max(self._most_places, len(places))
 
     def _find_kind(self, fields: Sequence[str], where: Sequence[int], path: str) -> None:
         for at, field in enumerate(fields):
@@ -112,12 +106,11 @@ class Column:
         return self._kind_notes() + self._unseen.notes(self.name)
 
     def _kind_notes(self) -> List[str]:
-        if self.kind == "text" and self._are_numbers and len(self._marks) == 1:
-            mark = " --decimal-mark ," if "," in self._marks else ""
-            most = "1 place" if self._most_places == 1 else "%d places" % self._most_places
-            return ["%s holds numbers and is text, which compares by its bytes: --decimal %s:%d%s stores such numbers with %s"
-                    % (self.name, self.name, self._most_places, mark, most)]
-        return [self.note] if self.kind == "text" and self.note else []
+        if self.kind != "text":
+            return []
+        notes = self._writing.notes(self.name)
+        is_told = any(note.startswith(self.name + " holds ") for note in notes)
+        return notes if is_told or not self.note else [self.note, *notes]
 
     def faults(self) -> List[Tuple[str, int, str]]:
         """What is wrong with the column once all lists are read: the list, the line, and what to say."""
@@ -133,7 +126,7 @@ class TextColumn(Column):
     def __init__(self, name: str) -> None:
         super().__init__(name)
         self.kind = "text"
-        self._are_numbers = False
+        self._writing = Writing(is_free=False)
 
 
 class DecimalColumn(Column):
@@ -145,8 +138,8 @@ class DecimalColumn(Column):
         self._mark = "."
         self._zeros = ["0" * (places - count) for count in range(places + 1)]
 
-    def begin(self, mark: str) -> None:
-        self._mark = mark
+    def begin(self, form: Form, name: str) -> None:
+        self._mark = form.decimal_mark
 
     def take(self, fields: Sequence[str], where: Sequence[int], path: str, say: Say) -> Sequence[str]:
         return [self._scaled(at, field, say) for at, field in enumerate(fields)]
@@ -178,6 +171,8 @@ class DecimalColumn(Column):
             return "has a comma: --decimal-mark , takes it as the mark before the places"
         if not number:
             return "is no number" + _DROP
+        if number in NULL_WORDS:
+            return "is no number" + _null_hint(number)
         most = "%d place%s" % (self._places, "" if self._places == 1 else "s")
         return "has more than " + most if _NUMBER.fullmatch(number) else "is no number"
 
@@ -196,12 +191,56 @@ class TimeColumn(TextColumn):
             return fields
         for at, field in enumerate(fields):
             if not _is_time(field):
-                say(at, "%s: %s is no date, and no time in UTC as 2026-03-01T00:10:00Z%s" % (self.name, _shown(field), "" if field else _DROP))
+                hint = _DROP if not field else _null_hint(field) if field in NULL_WORDS else "; --date %s=DMY, MDY or YMD turns dates round" % self.name if _DATE.fullmatch(field) else ""
+                say(at, "%s: %s is no date, and no time in UTC as 2026-03-01T00:10:00Z%s" % (self.name, _shown(field), hint))
             elif self._length is None:
                 self._length = len(field)
             elif len(field) != self._length:
                 say(at, "%s: %s is written in another form than the column's first" % (self.name, _shown(field)))
         return fields
+
+
+class DateColumn(TextColumn):
+    """A column of dates that lists write in an order of their own, as 1.3.2026 or 03/01/2026: 2026-03-01 is stored."""
+
+    def __init__(self, name: str) -> None:
+        super().__init__(name)
+        self._order = "YMD"
+
+    def begin(self, form: Form, name: str) -> None:
+        self._order = form.dates.get(self.name, "YMD")
+
+    def take(self, fields: Sequence[str], where: Sequence[int], path: str, say: Say) -> Sequence[str]:
+        turned = []
+        for at, field in enumerate(fields):
+            date = turned_date(field, self._order)
+            if date is None:
+                hint = _DROP if not field else _null_hint(field) if field in NULL_WORDS else ""
+                say(at, "%s: %s is no date %s%s" % (self.name, _shown(field), _ORDERS[self._order], hint))
+            turned.append(date or "")
+        return turned
+
+
+@functools.lru_cache(maxsize=100_000)
+def turned_date(field: str, order: str) -> Optional[str]:
+    """A date that is written in an order, DMY, MDY or YMD, as 2026-03-01; one that begins with a year of four digits is so in any
+    order. None where it is no such date."""
+    found = _DATE.fullmatch(field)
+    if found is None:
+        parts = (field[:4], field[4:6], field[6:]) if order == "YMD" and re.fullmatch("[0-9]{8}", field) else None
+    elif len(found[1]) == 4:
+        parts = found[1], found[3], found[4]
+    else:
+        parts = (found[4], found[3], found[1]) if order == "DMY" else (found[4], found[1], found[3]) if order == "MDY" else None
+    if parts is None or len(parts[0]) != 4 or max(len(parts[1]), len(parts[2])) > 2:
+        return None
+    date = "%s-%02d-%02d" % (parts[0], int(parts[1]), int(parts[2]))
+    return date if _is_date(date) else None
+
+
+#: How dates are written in each order.
+_ORDERS = {"DMY": "with the day first and a year of four digits, as 28.2.2026", "MDY": "with the month first and a year of four digits, as 2/28/2026",
+           "YMD": "with the year first, as 2026/2/28 or 20260228"}
 
 
 @functools.lru_cache(maxsize=100_000)
@@ -224,17 +263,22 @@ def _check_text(name: str, fields: Sequence[str], joined: str, say: Say) -> None
     """Says which fields are too long for a text, aren't in the list's encoding, or hold a zero byte."""
     if joined.isascii() and "\0" not in joined and max(map(len, fields)) <= LONGEST_TEXT:
         return
+    are_mixed = any("\x80" <= letter < "\udc80" for letter in joined)
     for at, field in enumerate(fields):
         try:
             length = len(field.encode("utf-8"))
         except UnicodeEncodeError as fault:
-            say(at, "%s: the byte 0x%02X isn't UTF-8; --encoding says how the list is written, as latin-1"
-                % (name, ord(field[fault.start]) & 0xFF))
+            say(at, "%s: the byte 0x%02X isn't UTF-8; --encoding says how the list is written, as latin-1%s"
+                % (name, ord(field[fault.start]) & 0xFF, "; other letters are UTF-8, and mixed reads both" if are_mixed else ""))
             continue
         if length > LONGEST_TEXT:
             say(at, "%s: a text of %d bytes, and the most are 1,024" % (name, length))
         if "\0" in field:
             say(at, "%s: a zero byte; is the list UTF-16?" % name)
+
+
+def _null_hint(word: str) -> str:
+    return ": --null %s takes it as an empty field" % shown_word(word)
 
 
 def _shortened(field: str) -> str:

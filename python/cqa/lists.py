@@ -8,16 +8,20 @@ import io
 import os
 import re
 import stat
+from array import array
 from functools import partial
 from itertools import chain, repeat
 from typing import IO, Callable, Dict, Iterator, List, Optional, Protocol, Sequence, Tuple, TypeVar, Union
 
 from .blocks import BlockWriter
-from .columns import Column, DecimalColumn, TextColumn, TimeColumn, csv_fault
+from .columns import Column, DateColumn, DecimalColumn, TextColumn, TimeColumn, csv_fault
+from .common import KeysOfLists
 from .options import MOST_NAME, Form, ListOptions, word_of
+from .origins import Origin
 from .scripts import Schema, row_text
 
 MOST_COLUMNS = 16
+MOST_ROWS = 1_000_000
 _PIECE = 5_000
 #: Letters of a line that are read at once: a longer line is no record of a table, and is told as several that are wrong.
 _LONGEST_LINE = 1_000_000
@@ -42,16 +46,32 @@ class _ReadFault(Exception):
     """A list can't be read, and why."""
 
 
+def _as_latin(fault: UnicodeError) -> Tuple[str, int]:
+    """What a list of mixed encodings has where it isn't UTF-8: letters of Latin-1, as Windows has them."""
+    if not isinstance(fault, UnicodeDecodeError):
+        raise fault
+    rest = fault.object[fault.start:fault.end]
+    try:
+        return rest.decode("cp1252"), fault.end
+    except UnicodeError:
+        return rest.decode("latin-1"), fault.end
+
+
+codecs.register_error("cqa-latin", _as_latin)
+
+
 class Lists:
     """The lists of one table. `add` reads one after the other, and then `end` tells what only all together show; where there are no
     faults, `schema` is the table and `finish_blocks` completes the file of its blocks."""
 
-    def __init__(self, options: ListOptions, blocks: IO[bytes], fault: Callable[[str], None], there: Optional[Schema] = None) -> None:
-        """blocks: a file for the blocks, which stand behind the schema. fault: told of each fault. there: the table, if it is there."""
+    def __init__(self, options: ListOptions, blocks: IO[bytes], fault: Callable[[str], None], there: Optional[Schema] = None,
+                 are_several: bool = False) -> None:
+        """blocks: a file for the blocks, which stand behind the schema. fault: told of each fault. there: the table, if it is there.
+        are_several: whether there are several lists, whose keys are compared."""
         self.options = options
         self._form = Form()
         self.records = 0
-        self.counts: List[Tuple[str, int]] = []  # the lists, by their sources or paths, with their numbers of records
+        self.origins: List[Origin] = []
         self.dropped = 0
         self.faults = 0
         self._notes: List[str] = []
@@ -69,6 +89,9 @@ class Lists:
         self._key = [word_of(name) for name in options.key]
         self._headers: Optional[Tuple[str, List[str]]] = None
         self._apart: List[Tuple[str, ...]] = []
+        self._keys = KeysOfLists() if are_several else None
+        self._marks = array("q")  # by each row a number that tells it from others
+        self._strict_rows: Dict[Tuple[str, ...], Tuple[Tuple[str, ...], str]] = {}  # by key, the row of a strict table and its place
 
     def tell(self, path: str, line: Optional[int], text: str) -> None:
         """Tells a fault, if not too many are like it. Those of a piece are told in the order of their lines, behind it."""
@@ -113,13 +136,13 @@ class Lists:
 
     def _add(self, path: str, source: Optional[str], raw: io.BufferedReader) -> None:
         try:
-            codecs.lookup(self._form.encoding)
+            codecs.lookup("utf-8" if self._form.encoding == "mixed" else self._form.encoding)
         except LookupError:
             raise _ReadFault("no encoding is called %s" % self._form.encoding) from None
         before, records = os.fstat(raw.fileno()), self.records
         text = self._decoded(path, raw)
         self._read(path, source, text)
-        self.counts.append((source or path, self.records - records))
+        self.origins.append(Origin(path, self.records - records, source))
         after = os.fstat(raw.fileno())
         if stat.S_ISREG(before.st_mode) and (before.st_size, before.st_mtime_ns) != (after.st_size, after.st_mtime_ns):
             self.tell(path, None, "it changed while it was read")
@@ -128,6 +151,8 @@ class Lists:
     def _decoded(self, path: str, raw: io.BufferedReader) -> io.TextIOWrapper:
         """A list as text. One that is UTF-8 with a letter beyond ASCII is read so, whatever encoding was told."""
         encoding = self._form.encoding
+        if encoding == "mixed":
+            return io.TextIOWrapper(raw, encoding="utf-8-sig", errors="cqa-latin", newline="")
         is_told = codecs.lookup(encoding).name == "utf-8" or raw.peek(3)[:3] == codecs.BOM_UTF8
         if not is_told and _is_utf_8(raw):
             self._notes.append("%s is UTF-8, and is read so, not as %s" % (path, encoding))
@@ -146,7 +171,9 @@ class Lists:
         if header is None or self.faults > faults:
             return
         for column in self._columns:
-            column.begin(self._form.decimal_mark)
+            column.begin(self._form, source or path)
+        if self._keys is not None:
+            self._keys.begin(source or path)
         writer = BlockWriter(self._blocks, self.options.table, path, self._apart, self._source_place())
         for lines, rows, end in self._pieces(path, reader):
             self._is_in_piece = True
@@ -255,7 +282,7 @@ class Lists:
             if name not in names and not (self._has_source and name == self.options.source_column):
                 self.tell(path, self._header_line, "no column %s for the key; it has %s; --delimiter says what stands between two fields, "
                           "--skip how many lines stand above the header" % (name, ", ".join(header)))
-        named = [word_of(name) for name in (*self.options.decimals, *self.options.times, *self.options.texts)]
+        named = [word_of(name) for name in (*self.options.decimals, *self.options.times, *self.options.texts, *sorted(self.options.dated()))]
         for name in named:
             if name not in names:
                 self.tell(path, self._header_line, "no column %s; it has %s" % (name, ", ".join(header)))
@@ -268,6 +295,8 @@ class Lists:
         decimals = {word_of(key): places for key, places in self.options.decimals.items()}
         if name in decimals:
             return DecimalColumn(name, decimals[name])
+        if name in self.options.dated():
+            return DateColumn(name)
         if name in map(word_of, self.options.times):
             return TimeColumn(name)
         if name in map(word_of, self.options.texts):
@@ -311,7 +340,9 @@ class Lists:
         fields = list(zip(*rows))
         columns: List[Sequence[str]] = [fields[place] for place in places] if rows else []
         if self.options.strip:
-            columns = [[value.strip() for value in values] for values in columns]
+            columns = [[value.strip().replace("\r\n", "\n") for value in values] for values in columns]
+        for word in self.options.nulls:
+            columns = [["" if value == word else value for value in values] if word in values else values for values in columns]
         if any("" in values for values in columns):
             kept = self._without_missing(path, lines, columns)
             lines, columns = _those(lines, kept), [_those(values, kept) for values in columns]
@@ -320,10 +351,26 @@ class Lists:
         self.records += len(lines)
         taken = [column.take(values, lines, path, lambda at, text: self.tell(path, lines[at], text))
                  for column, values in zip(self._columns, columns)]
+        self._look_at_keys(path, source, lines, taken)
         if not self.faults:
             writer.write(lines, taken, source, end)
             if len(self._apart) > _MOST_APART:
                 self.tell(path, None, "more than %d texts with a line \\., which ends a block" % _MOST_APART)
+
+    def _look_at_keys(self, path: str, source: Optional[str], lines: Sequence[int], taken: Sequence[Sequence[str]]) -> None:
+        """Looks at the keys and at the rows of a piece: which lists have a key, how many rows there are, and whether a strict table
+        takes them."""
+        of_key: List[Sequence[str]] = [values for column, values in zip(self._columns, taken) if column.name in self._key]
+        if self._keys is not None and of_key:
+            self._keys.take(of_key[0]) if len(of_key) == 1 else self._keys.take(zip(*of_key))
+        self._marks.extend(map(hash, zip(repeat(source), *taken)))
+        if self.options.strict and self._there is None:
+            keys = of_key + ([[source or ""] * len(lines)] if self.options.source_column in self._key else [])
+            for line, key, row in zip(lines, zip(*keys), zip(repeat(source or ""), *taken)):
+                known, place = self._strict_rows.setdefault(key, (row, "%s:%d" % (path, line)))
+                if known != row:
+                    self.tell(path, line, "the key %s stands in %s with another row, and a strict table takes one row of a key"
+                              % (", ".join(key), place))
 
     def _is_whole(self, path: str, line: int, row: List[str], width: int) -> bool:
         """Whether a record has as many fields as the header; a blank line is no record."""
@@ -354,16 +401,27 @@ class Lists:
         for column in self._columns:
             for fault in column.faults():
                 self.tell(*fault)
+        rows = len(set(self._marks)) if self.records > MOST_ROWS and not self.faults else 0
+        if rows > MOST_ROWS:
+            self.tell(self.options.table, None, "%s different rows, and a session has at most %s: docs/SQL.md says how to ask of them where they are"
+                      % (format(rows, ","), format(MOST_ROWS, ",")))
         self._tell_counts()
 
     def notes(self) -> List[str]:
         """What is no fault and good to know."""
-        notes = self._notes + ["%s has no records" % name for name, count in self.counts if not count]
+        notes = self._notes + ["%s has no records" % (one.source or one.path) for one in self.origins if not one.records]
         notes += ["no list has a column %s, which is named anew" % name for name in sorted(self._unrenamed)]
         notes += [note for column in self._columns for note in column.notes()]
         if self.dropped:
             notes.append("%d record%s with an empty field left out" % (self.dropped, "" if self.dropped == 1 else "s"))
-        return notes
+        return notes + (self._keys.notes(self.options.table, self._has_text_key()) if self._keys is not None else [])
+
+    def shared(self) -> List[str]:
+        """How many keys lists have in common."""
+        return self._keys.counts() if self._keys is not None else []
+
+    def _has_text_key(self) -> bool:
+        return any(column.kind == "text" for column in self._columns if column.name in self._key)
 
     def schema(self) -> Schema:
         """The table that the lists make."""

@@ -3,20 +3,17 @@
 from __future__ import annotations
 
 import argparse
+import re
 import shutil
-import sys
 import tempfile
 from dataclasses import replace
 from typing import IO, Callable, Dict, List, Optional, Sequence, Tuple
 
 from .blocks import create_text
-from .errors import LoadFault
-from .files import standard_output, written
 from .lists import Lists
 from .options import Form, ListOptions, word_of
-from .scaling import stored_note
+from .origins import origin_text
 from .scripts import Schema, remark_text
-from .words import told
 
 #: A list and what its rows have in the column of sources; None where there is no such column.
 Source = Tuple[str, Optional[str]]
@@ -33,7 +30,7 @@ def load_script(options: ListOptions, sources: Sequence[Source], out: IO[bytes],
     nothing is written. The lists are read once, and no row is kept in memory.
     """
     with tempfile.TemporaryFile() as blocks:
-        lists = Lists(options, blocks, fault, there)
+        lists = Lists(options, blocks, fault, there, len(sources) > 1)
         try:
             for path, source in sources:
                 lists.add(path, source)
@@ -43,13 +40,14 @@ def load_script(options: ListOptions, sources: Sequence[Source], out: IO[bytes],
             raise OSError(wrong.errno, "%s, in the folder of temporary files" % wrong.strerror, tempfile.gettempdir()) from None
         if lists.faults:
             return None
-        if blocks.tell() > _MOST_INPUT:
-            lists.tell(options.table, None, "%d bytes of records, and a script has at most 268,435,456" % blocks.tell())
-            return None
         places = {(options.table, word_of(name)): count for name, count in options.decimals.items()}
-        out.write(remark_text(places, {options.table: options.source_column} if sources[0][1] is not None else {}).encode())
-        if there is None:
-            out.write(create_text(lists.schema()).encode())
+        head = remark_text(places, {options.table: options.source_column} if sources[0][1] is not None else {})
+        head += origin_text(options.table, lists.origins) + ("" if there else create_text(lists.schema()))
+        size = blocks.tell() + len(head.encode("utf-8", "replace"))
+        if size > _MOST_INPUT:
+            lists.tell(options.table, None, "%d bytes of records, and a script has at most 268,435,456" % size)
+            return None
+        out.write(head.encode("utf-8", "replace"))
         blocks.seek(0)
         shutil.copyfileobj(blocks, out, _PIECE)
         return lists
@@ -64,7 +62,7 @@ def parser() -> argparse.ArgumentParser:
                "Example: cqa load --table customer --key id --source shop=shop.csv --source crm=crm.csv -o load.cqa")
     words.add_argument("files", nargs="*", metavar="LIST", help="a list without a source")
     words.add_argument("--table", required=True, help="the table's name")
-    words.add_argument("--key", required=True, help="the columns of its key: id or id,day")
+    words.add_argument("--key", default="", help="the columns of its key: id or id,day; with --into that of the table")
     words.add_argument("--source", action="append", default=[], metavar="NAME=LIST",
                        help="a list, and what its rows have in the column of sources")
     words.add_argument("--source-column", default="source", metavar="NAME", help="what the column of sources is called (source)")
@@ -73,19 +71,23 @@ def parser() -> argparse.ArgumentParser:
     words.add_argument("--delimiter", action="append", default=[], metavar="[NAME=]MARK",
                        help="what stands between two fields: else a comma, or what the header has in its place; tab is written \\t")
     words.add_argument("--encoding", action="append", default=[], metavar="[NAME=]ENCODING",
-                       help="the lists' encoding, such as latin-1 (utf-8 where it isn't told); a list that is UTF-8 is read so")
+                       help="the lists' encoding, such as latin-1 (utf-8 where it isn't told); a list that is UTF-8 is read so; under mixed what isn't UTF-8 is Latin-1")
     words.add_argument("--decimal", action="append", default=[], metavar="COLUMN:PLACES",
                        help="a column of numbers with so many places, stored as ints, as which statements speak of them")
     words.add_argument("--decimal-mark", action="append", default=[], metavar="[NAME=]MARK", help="the mark before the places: . or , (.)")
+    words.add_argument("--date", action="append", default=[], metavar="[NAME=]COLUMN=ORDER",
+                       help="a column of dates that the lists write in the order DMY, MDY or YMD, stored as 2026-03-01")
     words.add_argument("--time", action="append", default=[], metavar="COLUMN",
                        help="a column of dates, or of times in UTC, all in one form")
     words.add_argument("--text", action="append", default=[], metavar="COLUMN",
                        help="a column that is text, even where it holds numbers alone")
     words.add_argument("--missing", choices=["refuse", "keep", "drop"], default="refuse",
                        help="an empty field outside the key is a fault (refuse), the text '' (keep), or its record is left out (drop)")
-    words.add_argument("--strip", action="store_true", help="blanks at the ends of fields are left out")
+    words.add_argument("--strip", action="store_true", help="blanks at the ends of fields are left out, and a line feed within one is LF")
+    words.add_argument("--null", action="append", default=[], metavar="WORD", help="a word that stands for an empty field, as NULL")
     words.add_argument("--skip", action="append", default=[], metavar="[NAME=]N", help="how many lines stand above the header (0)")
     words.add_argument("--strict", action="store_true", help="the table takes no two rows of one key")
+    words.add_argument("--into", metavar="FILE", help="a script, or a state, whose table takes the lists too: the file is written anew with all of its tables, or -o names another")
     words.add_argument("-o", "--output", metavar="FILE", help="the script's file, in place of standard output")
     return words
 
@@ -100,9 +102,11 @@ def options_of(words: argparse.Namespace) -> ListOptions:
         decimals[name] = int(places)
     renamed = dict(pair.partition("=")[::2] for pair in words.rename)
     form, forms = _forms_of(words)
-    return ListOptions(words.table, words.key.split(","), words.columns.split(",") if words.columns else None, decimals, words.time,
-                       words.text, form.delimiter, form.encoding, renamed, form.decimal_mark, words.missing, words.strict,
-                       words.source_column, words.strip, form.skip, forms)
+    if not words.key and not words.into:
+        raise ValueError("--key names the columns of the key: --key id, or --key id,day")
+    return ListOptions(words.table, words.key.split(",") if words.key else [], words.columns.split(",") if words.columns else None, decimals,
+                       words.time, words.text, form.delimiter, form.encoding, renamed, form.decimal_mark, words.missing, words.strict,
+                       words.source_column, words.strip, form.skip, forms, form.dates, words.null)
 
 
 def _forms_of(words: argparse.Namespace) -> Tuple[Form, Dict[str, Form]]:
@@ -110,9 +114,9 @@ def _forms_of(words: argparse.Namespace) -> Tuple[Form, Dict[str, Form]]:
     names = [pair.partition("=")[0] for pair in words.source] + words.files
     whole = Form()
     apart: List[Tuple[str, str, str]] = []
-    for option in ("delimiter", "encoding", "decimal_mark", "skip"):
+    for option in ("delimiter", "encoding", "decimal_mark", "skip", "date"):
         for word in getattr(words, option):
-            name = next((name for name in names if word.startswith(name + "=")), None)
+            name = next((name for name in names if word.startswith(name + "=") and (option != "date" or word.count("=") > 1)), None)
             if name is None:
                 whole = _with(whole, option, word)
             else:
@@ -131,6 +135,11 @@ def _with(form: Form, option: str, value: str) -> Form:
         return replace(form, encoding=value)
     if option == "decimal_mark":
         return replace(form, decimal_mark=value)
+    if option == "date":
+        column, _, order = value.partition("=")
+        if not re.fullmatch("DMY|MDY|YMD", order):
+            raise ValueError("--date wants COLUMN=DMY, MDY or YMD, or NAME=COLUMN=DMY for the list of one source, and not %s" % value)
+        return replace(form, dates={**form.dates, word_of(column): order})
     if not value.isdigit():
         raise ValueError("--skip wants a number of lines, as 1, or NAME=1 for the list of one source, and not %s" % value)
     return replace(form, skip=int(value))
@@ -149,41 +158,3 @@ def sources_of(words: argparse.Namespace) -> List[Source]:
     if not sources and not words.files:
         raise ValueError("no list is named: --source NAME=LIST, or LIST")
     return sources or [(path, None) for path in words.files]
-
-
-def main(arguments: Sequence[str]) -> int:
-    """The command `load`: 0, or 1 with the faults on standard error and nothing written, or 2 for wrong words."""
-    words = told(parser(), arguments)
-    try:
-        options, sources = options_of(words), sources_of(words)
-    except ValueError as fault:
-        print("cqa load: %s" % fault, file=sys.stderr)
-        return 2
-    try:
-        lists = _written(options, sources, words.output)
-    except LoadFault:
-        print("cqa load: nothing is written", file=sys.stderr)
-        return 1
-    for note in lists.notes():
-        print("cqa load: %s" % note, file=sys.stderr)
-    for name, count in options.decimals.items():
-        print("cqa load: " + stored_note(word_of(name), count), file=sys.stderr)
-    parts = " (%s)" % ", ".join("%s %d" % part for part in lists.counts) if len(lists.counts) > 1 else ""
-    records = "1 record" if lists.records == 1 else "%d records" % lists.records
-    print("cqa load: %s, %s%s" % (_shown(lists.schema()), records, parts), file=sys.stderr)
-    return 0
-
-
-def _written(options: ListOptions, sources: Sequence[Source], output: Optional[str]) -> Lists:
-    """Writes the script to a file or to standard output. Raises LoadFault where a list has a fault, which then is told."""
-    with written(output) if output else standard_output() as out:
-        lists = load_script(options, sources, out, lambda fault: print(fault, file=sys.stderr))
-        if lists is None:
-            raise LoadFault([])
-        out.flush()
-        return lists
-
-
-def _shown(schema: Schema) -> str:
-    columns = ", ".join("%s %s" % item for item in schema.columns.items())
-    return "%s (%s) by %s" % (schema.table, columns, ", ".join(schema.key))

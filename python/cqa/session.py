@@ -20,7 +20,8 @@ from .conflicts import Conflicts, conflicts_of
 from .errors import LoadFault, LoadWarning, NoSuchName, Refused, ReplyFault, ScaleWarning, StateFault, UnknownStatement
 from .files import written
 from .loading import Source, load_script
-from .options import ListOptions, word_of
+from .options import ByList, ListOptions, forms_by_list, word_of
+from .origins import Origin, origin_text, origins_of
 from .program import Child
 from .replies import IS_REFUSAL, row_of
 from .rows import Cell, Rows
@@ -52,6 +53,7 @@ class Session:
         self._settings = b""
         self._places: Dict[Tuple[str, str], int] = {}
         self._sources: Dict[str, str] = {}
+        self._origins: Dict[str, List[Origin]] = {}
 
     def __enter__(self) -> "Session":
         return self
@@ -137,6 +139,9 @@ class Session:
         places, sources = remarks(script)
         self._places.update(places)
         self._sources.update(sources)
+        for table, origins in origins_of(script).items():
+            known = self._origins.setdefault(table, [])
+            known += [origin for origin in origins if origin not in known]
 
     def _told(self, script: bytes, part: Statement, is_made: bool = False) -> List[bytes]:
         """Sends a statement of a script and gives its reply's lines without line feeds. is_made: this package wrote the script,
@@ -166,9 +171,10 @@ class Session:
     def load(self, table: str, path: Union[str, "os.PathLike[str]", Mapping[str, Union[str, "os.PathLike[str]"]]], *,
              key: Union[str, Sequence[str]] = (), source: Optional[str] = None, columns: Union[str, Sequence[str], None] = None,
              decimal: Optional[Mapping[str, int]] = None, time: Union[str, Sequence[str]] = (),
-             text: Union[str, Sequence[str]] = (), delimiter: str = "",
-             encoding: str = "utf-8", renamed: Optional[Mapping[str, str]] = None, decimal_mark: str = ".",
-             missing: str = "refuse", strict: bool = False, source_column: str = "source", strip: bool = False, skip: int = 0) -> int:
+             text: Union[str, Sequence[str]] = (), delimiter: ByList[str] = "",
+             encoding: ByList[str] = "utf-8", renamed: Optional[Mapping[str, str]] = None, decimal_mark: ByList[str] = ".",
+             missing: str = "refuse", strict: bool = False, source_column: str = "source", strip: bool = False, skip: ByList[int] = 0,
+             date: Optional[Mapping[str, ByList[str]]] = None, null: Union[str, Sequence[str]] = ()) -> int:
         """Loads a CSV list with a header line into a table, which is made where it isn't there, and gives the number of new rows.
 
         path: the list, or several as {"crm": "crm.csv", "shop": "shop.csv"} by their sources; the kinds of a new table's columns
@@ -177,8 +183,10 @@ class Session:
         delimiter: where it isn't told, a comma, or what the header has in its place. renamed: names of columns by those that the
         list has. time: columns of dates or of times in UTC. text: columns that are text though they hold numbers. missing: what an empty
         field outside the key is: "refuse", "keep" or "drop". strict: whether a new table takes no two rows of one key. strip: whether
-        blanks at the ends of fields are left out. skip: how many lines stand above the header. Names of columns are a list, or one
-        text with commas.
+        blanks at the ends of fields are left out. skip: how many lines stand above the header. date: columns of dates and the order in
+        which lists write them, "DMY", "MDY" or "YMD"; 2026-03-01 is stored. null: a word that stands for an empty field, or several.
+        Names of columns are a list, or one text with commas. delimiter, encoding, decimal_mark, skip and the order of a date may be told
+        by list, as encoding={"crm": "latin-1"}, by the lists' sources.
 
         A table that is there gets the kinds and places that a further list needs: an int column becomes text where the list has
         other fields, and numbers get more places. Then the program begins anew with all tables, and the log of `show log` is gone.
@@ -188,9 +196,12 @@ class Session:
         Raises LoadFault with every fault of the lists, and then nothing of them is loaded; ValueError for options that tell nothing;
         Refused where the program refuses a list (a strict table's key is taken, more rows than fit), and then those before it stay.
         """
+        sources = _sources(path, source)
+        form, forms = forms_by_list([name or one for one, name in sources], delimiter, encoding, decimal_mark, skip, date or {})
         options = ListOptions(table, _names(key), None if columns is None else _names(columns), decimal or {}, _names(time), _names(text),
-                              delimiter, encoding, renamed or {}, decimal_mark, missing, strict, source_column, strip, skip)
-        return self.load_lists(options, _sources(path, source))
+                              form.delimiter, form.encoding, renamed or {}, form.decimal_mark, missing, strict, source_column, strip,
+                              form.skip, forms, form.dates, [null] if isinstance(null, str) else null)
+        return self.load_lists(options, sources)
 
     def load_lists(self, options: ListOptions, sources: Sequence[Source]) -> int:
         """Loads lists as options say, each with what its rows have in the column of sources, and gives the number of new rows.
@@ -493,6 +504,7 @@ class Session:
         with written(path) as file:
             file.write(_STATE_HEAD.encode())
             file.write(remark_text(self._places, self._sources).encode())
+            file.write("".join(origin_text(table, origins) for table, origins in self._origins.items()).encode("utf-8", "replace"))
             for line in dump:
                 file.write(line.encode("utf-8") + b"\n")
             file.write(("-- cqa state: %d tables, %d rows\n" % (len(shown) - 1, rows)).encode())

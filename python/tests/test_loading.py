@@ -4,6 +4,7 @@ from __future__ import annotations
 
 import io
 import os
+import re
 import resource
 import subprocess
 import sys
@@ -20,10 +21,10 @@ from cqa.options import ListOptions
 
 class Taken(Case):
     def load(self, *words: str) -> str:
-        """The script of a load that has to go well."""
+        """The script of a load that has to go well, without its comments that name the lists."""
         status, out, told = self.command("load", "--table", "t", *words)
         self.assertEqual(status, 0, told)
-        return out
+        return re.sub(r"^-- cqa: table t has .*\n", "", out, flags=re.M)
 
     def test_headers_by_name_whatever_their_order(self) -> None:
         self.file("a.csv", "\ufeffid,Full Name,City\r\n1,Ada,Oslo\r\n3,\"Moe, Cy\",Hamar")
@@ -158,7 +159,7 @@ class Taken(Case):
 
     def test_a_list_that_is_a_pipe_and_a_header_alone(self) -> None:
         status, out, _ = self.command("load", "--table", "t", "--key", "id", "/dev/stdin", stdin=b"id,name\n1,Ada\n")
-        self.assertEqual((status, lines(out)[3]), (0, '"1","Ada"'))
+        self.assertEqual((status, lines(out)[4]), (0, '"1","Ada"'))
         self.file("a.csv", "id,name\n")
         self.assertEqual(self.load("--key", "id", "a.csv"), "create table t (id int, name int, primary key (id));\n")
 
@@ -168,7 +169,7 @@ class Taken(Case):
         self.assertEqual(self.command("load", "--table", "t", "--key", "no", "-o", "load.cqa", "a.csv")[0], 1)
         self.assertEqual(self.read("load.cqa"), "old")
         self.assertEqual(self.command("load", "--table", "t", "--key", "id", "-o", "load.cqa", "a.csv")[0], 0)
-        self.assertTrue(self.read("load.cqa").startswith("create table t"))
+        self.assertIn("create table t", self.read("load.cqa"))
         self.assertEqual(sorted(os.listdir(self.folder)), ["a.csv", "load.cqa"])
 
 
@@ -214,7 +215,7 @@ class Faults(Case):
                          ["a.csv:2: n: 9223372036854775808 is out of the range of int, 64 bits; --text n takes the column as text"])
         self.assertEqual(self.faults("id,n\n1,%s\n" % ("ä" * 513)), ["a.csv:2: n: a text of 1026 bytes, and the most are 1,024"])
         self.assertEqual(self.faults("id,n\n1,1.005\n2,1e3\n3,NaN\n4,92233720368547758.08\n", "--decimal", "n:2"),
-                         ["a.csv:2: n: '1.005' has more than 2 places", "a.csv:3: n: '1e3' is no number", "a.csv:4: n: 'NaN' is no number",
+                         ["a.csv:2: n: '1.005' has more than 2 places", "a.csv:3: n: '1e3' is no number", "a.csv:4: n: 'NaN' is no number: --null NaN takes it as an empty field",
                           "a.csv:5: n: '92233720368547758.08' is out of range"])
         self.assertEqual(len(self.faults("id,n\n1,\n", "--decimal", "n:2", "--missing", "keep")), 1)
 

@@ -83,6 +83,13 @@ full [] (r ∷ p) b e = absurd b
 full (s ∷ sizes) [] b e = absurd (omega (arith, e))
 full (s ∷ sizes) (r ∷ p) b e = (b.0, full sizes p b.1 (omega (arith, e)))
 
+-- a choice and a row of one block more
+pub choice-push : (sizes c : List ℕ) (s r : ℕ) → IsChoice sizes c → r < s → IsChoice (sizes ++ s ∷ []) (c ++ r ∷ [])
+choice-push [] [] s r k l = (l, tt)
+choice-push [] (q ∷ c) s r k l = absurd k
+choice-push (t ∷ sizes) [] s r k l = absurd k
+choice-push (t ∷ sizes) (q ∷ c) s r k l = (k.0, choice-push sizes c s r k.1 l)
+
 -- ---- what is held
 
 pub chosen-on : (c p : List ℕ) (b r : ℕ) → Begins c p → slice_get p b ≡ Some r → slice_get c b ≡ Some r

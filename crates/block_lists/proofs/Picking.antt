@@ -1,9 +1,9 @@
 -- The choice of a model: the first true row of each block.
 use Rattle.std.proofs.Common.{◌≡◌, ℕ, zero, suc, ◌<◌, ◌≤◌, ◌+◌, ◌-◌, ◌∷◌, ◌++◌, List, [], length, get_or, map, take, drop, Contains, Some, slice_get, refl, sym, ◌∙◌, ap, subst, arith, Bool, true, false, slice_range, cond}
 use Rattle.std.specs.List.{AllZip, range_with_len, sum}
-use Rattle.std.proofs.lemmas.List.{take_more}
+use Rattle.std.proofs.lemmas.List.{length-drop, length-take-le, take_more}
 use Rattle.std.proofs.lemmas.List.Sums.{sum_by_more}
-use Rattle.block_lists.proofs.Bases.{sum-cons}
+use Rattle.block_lists.proofs.Bases.{sum-cons, sum-within}
 use Rattle.block_lists.specs.Picks.{first_true, first_trues}
 
 -- a true value ends the look
@@ -33,6 +33,16 @@ drop-drop zero n m values e = let z : n ≡ m = omega (arith, e) in ap (λ k. dr
 drop-drop (suc s) n zero values e = absurd (omega (arith, e))
 drop-drop (suc s) n (suc m) [] e = drop-nil n
 drop-drop (suc s) n (suc m) (b ∷ values) e = drop-drop s n m values (omega (arith, e))
+
+-- the values of a block are as many as its rows
+pub part-length : (values : List Bool) (from size : ℕ) → from + size ≤ length values → length (slice_range values from (from + size)) ≡ size
+part-length values from size l =
+    let d = length-drop from values in
+    let e : from + size - from ≡ size = omega arith in
+    length-take-le (from + size - from) (drop from values) (omega (arith, l, d)) ∙ e
+
+pub block-length : (sizes : List ℕ) (i from : ℕ) (values : List Bool) → i < length sizes → from ≡ sum (take i sizes) → length values ≡ sum sizes → length (slice_range values from (from + get_or sizes i 0)) ≡ get_or sizes i 0
+block-length sizes i from values l e each = let w = sum-within sizes i from l e in part-length values from (get_or sizes i 0) (omega (arith, w, each))
 
 pub trues-push : (sizes : List ℕ) (values : List Bool) (s m : ℕ) → m ≡ sum sizes → first_trues (sizes ++ s ∷ []) values ≡ first_trues sizes values ++ first_true (take s (drop m values)) ∷ []
 trues-push [] values s m e = let z : 0 ≡ m = omega (arith, e) in ap (λ k. first_true (take s (drop k values)) ∷ []) z

@@ -16,19 +16,19 @@ range-new pool names =
     ap (take (length (pool ++ names) - length pool)) (drop-append_seam pool names)
     ∙ take_all (length (pool ++ names) - length pool) names (let k = length-append pool names in omega (arith, k))
 
-clauses-kept : (pool names : List BlockRow) (ss : List Stretch) → AreWithin pool ss → lists_of (pool ++ names) ss ≡ lists_of pool ss
-clauses-kept pool names [] w = refl
-clauses-kept pool names (s ∷ ss) w =
+pub lists-kept : (pool names : List BlockRow) (ss : List Stretch) → AreWithin pool ss → lists_of (pool ++ names) ss ≡ lists_of pool ss
+lists-kept pool names [] w = refl
+lists-kept pool names (s ∷ ss) w =
     let here = w s (mem-head s ss) in
     let e : slice_range (pool ++ names) s.start s.end ≡ slice_range pool s.start s.end = slice_range-append_left pool names s.start s.end here.0 here.1 in
-    let es : lists_of (pool ++ names) ss ≡ lists_of pool ss = clauses-kept pool names ss (λ t m. w t (mem-tail t s ss m)) in
+    let es : lists_of (pool ++ names) ss ≡ lists_of pool ss = lists-kept pool names ss (λ t m. w t (mem-tail t s ss m)) in
     cc
 
-pub clauses-added : (pool names : List BlockRow) (ss : List Stretch) (s : Stretch) → AreWithin pool ss → s.start ≡ length pool → s.end ≡ length (pool ++ names) →
+pub lists-added : (pool names : List BlockRow) (ss : List Stretch) (s : Stretch) → AreWithin pool ss → s.start ≡ length pool → s.end ≡ length (pool ++ names) →
     lists_of (pool ++ names) (ss ++ s ∷ []) ≡ lists_of pool ss ++ names ∷ []
-clauses-added pool names ss s w start end =
+lists-added pool names ss s w start end =
     map_push (λ (t : Stretch). slice_range (pool ++ names) t.start t.end) ss s
-    ∙ (ap (λ cs. cs ++ slice_range (pool ++ names) s.start s.end ∷ []) (clauses-kept pool names ss w)
+    ∙ (ap (λ cs. cs ++ slice_range (pool ++ names) s.start s.end ∷ []) (lists-kept pool names ss w)
     ∙ ap (λ c. lists_of pool ss ++ c ∷ []) (ap (λ a. slice_range (pool ++ names) a s.end) start ∙ (ap (λ b. slice_range (pool ++ names) (length pool) b) end ∙ range-new pool names)))
 
 pub within-grown : (pool names : List BlockRow) (ss : List Stretch) → AreWithin pool ss → AreWithin (pool ++ names) ss
@@ -47,13 +47,13 @@ within-added pool names ss s w start end t m = elim (Contains-push_cases ss s t 
 
 -- ---- the list at a place
 
-clauses-long : (pool : List BlockRow) (ss : List Stretch) (at : ℕ) → at < length (lists_of pool ss) → at < length ss
-clauses-long pool ss at l = let k = length-map ss (λ (t : Stretch). slice_range pool t.start t.end) in omega (arith, k, l)
+lists-long : (pool : List BlockRow) (ss : List Stretch) (at : ℕ) → at < length (lists_of pool ss) → at < length ss
+lists-long pool ss at l = let k = length-map ss (λ (t : Stretch). slice_range pool t.start t.end) in omega (arith, k, l)
 
 pub within-at : (pool : List BlockRow) (ss : List Stretch) (at : ℕ) (s : Stretch) → AreWithin pool ss → at < length (lists_of pool ss) → s ≡ get_or ss at s → (s.start ≤ s.end) × (s.end ≤ length pool)
-within-at pool ss at s w l e = w s (at, clauses-long pool ss at l, sym e)
+within-at pool ss at s w l e = w s (at, lists-long pool ss at l, sym e)
 
-pub clause-at : (pool : List BlockRow) (ss : List Stretch) (at : ℕ) (s : Stretch) → at < length (lists_of pool ss) → s ≡ get_or ss at s → slice_get (lists_of pool ss) at ≡ Some (slice_range pool s.start s.end)
-clause-at pool ss at s l e =
+pub list-at : (pool : List BlockRow) (ss : List Stretch) (at : ℕ) (s : Stretch) → at < length (lists_of pool ss) → s ≡ get_or ss at s → slice_get (lists_of pool ss) at ≡ Some (slice_range pool s.start s.end)
+list-at pool ss at s l e =
     slice_get-map (λ (t : Stretch). slice_range pool t.start t.end) ss at
-    ∙ ap (option_map (λ (t : Stretch). slice_range pool t.start t.end)) (slice_get-get_or ss at s (clauses-long pool ss at l) ∙ ap Some (sym e))
+    ∙ ap (option_map (λ (t : Stretch). slice_range pool t.start t.end)) (slice_get-get_or ss at s (lists-long pool ss at l) ∙ ap Some (sym e))

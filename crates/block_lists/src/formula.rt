@@ -1,29 +1,15 @@
 //! The formula of a group: each row of each block is a variable, one clause for each block, and one for each list.
 
-ghost use Rattle.std.specs.Prelude.{◌≡◌, ◌≤◌, [], IfOk};
-ghost use Rattle.std.specs.List.{sum};
-ghost use Rattle.block_lists.specs.declared.row.TheConstants.{MOST_GROUP_ROWS};
+ghost use Rattle.std.specs.Prelude.{IfOk};
 ghost use Rattle.block_lists.specs.Choices.{IsGroup};
 ghost use Rattle.block_lists.specs.Formulas.{IsGroupFormula};
 
 use crate::clauses::{add_blocks, add_lists};
-use crate::numbers::fill_bases;
+use crate::numbers::{fill_bases, total};
 use crate::pool::Lists;
 use cnf_form::Cnf;
 use cqa_value::{Items, NoMemory};
 use std::alloc::Global;
-
-/// How many rows blocks have together.
-fn total(sizes: &[u32]) -> u32
-    requires { sum sizes.now ≤ MOST_GROUP_ROWS }
-    ensures { result ≡ sum sizes.now }
-{
-    let mut total = 0;
-    for size in sizes {
-        total += *size;
-    }
-    total
-}
 
 /// The formula of a group of lists of rows of blocks, which are told by their sizes.
 ///

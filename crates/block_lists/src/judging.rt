@@ -5,7 +5,7 @@ ghost use Rattle.block_lists.specs.Choices.{IsGroup};
 ghost use Rattle.block_lists.specs.Judging.{IsJudged, Tells};
 
 use crate::pool::Lists;
-use crate::proving::{Proved, prove_formula};
+use crate::proving::{Proved, prove_unclear};
 use crate::room::Room;
 use crate::walking::{Walked, walk};
 use cqa_value::NoMemory;
@@ -57,7 +57,7 @@ pub fn judge(
         Walked::Forced => Ok(Judged::Certain),
         Walked::Avoided => Ok(Judged::Open),
         Walked::Unclear => {
-            let proved = prove_formula(alloc, sizes, lists, budget, &mut room.choice)?;
+            let proved = prove_unclear(alloc, sizes, lists, budget, &mut room.choice)?;
             Ok(judged_by(proved))
         }
     }

@@ -4,6 +4,7 @@
 
 mod clauses;
 mod formula;
+mod guess;
 mod judging;
 pub mod laws;
 mod numbers;

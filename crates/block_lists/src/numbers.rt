@@ -10,6 +10,18 @@ ghost use Rattle.block_lists.specs.Numbers.{AreBasedOver, bases_from, number_ove
 use crate::row::BlockRow;
 use cqa_value::NoMemory;
 
+/// How many rows blocks have together.
+pub fn total(sizes: &[u32]) -> u32
+    requires { sum sizes.now ≤ MOST_GROUP_ROWS }
+    ensures { result ≡ sum sizes.now }
+{
+    let mut total = 0;
+    for size in sizes {
+        total += *size;
+    }
+    total
+}
+
 /// Puts how many rows stand in the blocks before each into an empty list.
 ///
 /// # Errors

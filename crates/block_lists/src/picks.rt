@@ -8,7 +8,7 @@ ghost use Rattle.block_lists.specs.Picks.{first_true, first_trues};
 use cqa_value::NoMemory;
 
 /// The place of the first true value, or their number.
-fn first_true(values: &[bool]) -> u32
+pub(crate) fn first_true(values: &[bool]) -> u32
     requires { length values.now ≤ MOST_GROUP_ROWS }
     ensures { result ≡ first_true values.now }
 {

@@ -1,6 +1,6 @@
 //! Lists of rows in one pool, so that a group of them takes no vector for each.
 
-ghost use Rattle.std.specs.Prelude.{◌≡◌, ◌<◌, ◌≤◌, ◌++◌, ◌∷◌, [], length, OnOk, Some, slice_get};
+ghost use Rattle.std.specs.Prelude.{◌≡◌, ◌<◌, ◌≤◌, ◌++◌, ◌∷◌, [], length, OnErr, OnOk, Some, slice_get};
 ghost use Rattle.std.specs.List.{slice_range};
 
 use crate::row::BlockRow;
@@ -66,9 +66,10 @@ impl Lists {
     ///
     /// # Errors
     ///
-    /// `NoMemory` where memory is refused.
+    /// `NoMemory` where memory is refused; the lists stay as they were then.
     pub fn add(&mut self, names: &[BlockRow]) -> Result<(), NoMemory>
-        ensures { OnOk result (self.new ≡ self.old ++ names.now ∷ []) }
+        ensures ok { OnOk result (self.new ≡ self.old ++ names.now ∷ []) }
+        ensures err { OnErr result (self.new ≡ self.old) }
     {
         let start = self.pool.len();
         self.pool.extend_from_slice(names)?;

@@ -7,6 +7,7 @@ ghost use Rattle.block_lists.specs.Choices.{IsGroup};
 ghost use Rattle.block_lists.specs.Judging.{HasEachValue, IsProved, Shows};
 
 use crate::formula::formula_of;
+use crate::guess::free_avoids;
 use crate::picks::fill_choice;
 use crate::pool::Lists;
 use crate::room::Room;
@@ -56,7 +57,7 @@ fn shown_by(
 }
 
 /// What the solver finds out of a group, by searches of at most `budget` conflicts each.
-pub(crate) fn prove_formula(
+fn prove_formula(
     alloc: Global,
     sizes: &[u32],
     lists: &Lists,
@@ -73,6 +74,24 @@ pub(crate) fn prove_formula(
             drop(cnf);
             Err(fault)
         }
+    }
+}
+
+/// What free rows show of a group, and if that is nothing, what the solver finds out.
+pub(crate) fn prove_unclear(
+    alloc: Global,
+    sizes: &[u32],
+    lists: &Lists,
+    budget: u32,
+    choice: &mut Vec<u32>,
+) -> Result<Proved, NoMemory>
+    requires { IsGroup sizes.now lists.now }
+    ensures { IfOk result (IsProved sizes.now lists.now budget choice.new.items) }
+{
+    if free_avoids(alloc, sizes, lists, choice)? {
+        Ok(Proved::Open)
+    } else {
+        prove_formula(alloc, sizes, lists, budget, choice)
     }
 }
 
@@ -94,8 +113,7 @@ pub fn prove(
 {
     match walk(sizes, lists, &mut room.choice)? {
         Walked::Avoided => Ok(Proved::Open),
-        Walked::Forced | Walked::Unclear => {
-            prove_formula(alloc, sizes, lists, budget, &mut room.choice)
-        }
+        Walked::Forced => prove_formula(alloc, sizes, lists, budget, &mut room.choice),
+        Walked::Unclear => prove_unclear(alloc, sizes, lists, budget, &mut room.choice),
     }
 }

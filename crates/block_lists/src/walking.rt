@@ -40,7 +40,7 @@ fn is_held(choice: &[u32], names: &[BlockRow]) -> bool
 }
 
 /// Whether they have all rows of some list among them.
-fn holds_some(choice: &[u32], lists: &Lists) -> bool
+pub(crate) fn holds_some(choice: &[u32], lists: &Lists) -> bool
     ensures { IsTrue result ↔ HoldsSome choice.now lists.now }
 {
     for at in 0..lists.len() {

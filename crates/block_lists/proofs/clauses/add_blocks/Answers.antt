@@ -1,10 +1,8 @@
-use Rattle.std.proofs.Common.{◌≡◌, ◌∙◌, ◌++◌, ◌∷◌, [], List, ℕ, suc, get_or, map, ap, sym, arith}
-use Rattle.std.specs.List.{range_with_len}
+use Rattle.std.proofs.Common.{◌∙◌, ap, arith}
 use Rattle.std.proofs.lemmas.List.{map_push}
 use Rattle.cnf_form.specs.declared.formula.Clause.{Clause}
-use Rattle.cnf_form.specs.Literals.{literals, positive}
-use Rattle.block_lists.specs.Formulas.{blocks_from}
-use Rattle.block_lists.proofs.Bases.{blocks-added, sum-more, sum-within}
+use Rattle.cnf_form.specs.Literals.{literals}
+use Rattle.block_lists.proofs.Bases.{blocks-added, sum-more}
 use Rattle.block_lists.proofs.clauses.add_blocks.Goals as goal
 
 pub loop-size-preserved : goal.loop-size-preserved

@@ -1,4 +1,4 @@
-use Rattle.std.proofs.Common.{◌∙◌, List, ap, subst}
+use Rattle.std.proofs.Common.{◌∙◌, ap}
 use Rattle.std.proofs.lemmas.List.{map_push}
 use Rattle.cnf_form.specs.declared.formula.Clause.{Clause}
 use Rattle.cqa_value.proofs.Words.{Contains-slice_get}

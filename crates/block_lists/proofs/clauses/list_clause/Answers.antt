@@ -1,7 +1,6 @@
 use Rattle.std.proofs.Common.{◌∙◌, List, ℕ, ap, map, subst, Contains, ◌↔◌}
 use Rattle.std.proofs.lemmas.Result.{IfOk-weaker}
 use Rattle.cnf_form.specs.Literals.{negative}
-use Rattle.block_lists.specs.Numbers.{AreNumbersOver}
 use Rattle.block_lists.proofs.clauses.list_clause.Goals as goal
 
 pub returns : goal.returns

@@ -1,9 +1,8 @@
-use Rattle.std.proofs.Common.{◌≡◌, ◌++◌, ◌∙◌, List, ℕ, map, ap, sym, subst, Contains}
+use Rattle.std.proofs.Common.{◌≡◌, ◌++◌, ◌∙◌, List, ℕ, map, ap, sym, subst}
 use Rattle.cnf_form.specs.declared.formula.Clause.{Clause}
 use Rattle.cnf_form.specs.Literals.{literals, positive}
-use Rattle.block_lists.specs.declared.row.BlockRow.{BlockRow}
 use Rattle.block_lists.specs.Formulas.{blocks_from}
-use Rattle.block_lists.specs.Numbers.{AddsLists, IsBasedOver, bases_from}
+use Rattle.block_lists.specs.Numbers.{AddsLists, IsBasedOver}
 use Rattle.block_lists.proofs.Bases.{all-numbers-of, is-based}
 use Rattle.block_lists.proofs.formula.formula_of.Goals as goal
 

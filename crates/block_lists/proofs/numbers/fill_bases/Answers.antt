@@ -1,5 +1,5 @@
 use Rattle.std.proofs.Common.{◌∙◌, ◌++◌, ◌∷◌, [], List, ℕ, ap, sym, arith}
-use Rattle.block_lists.proofs.Bases.{bases-more, sum-more, sum-within}
+use Rattle.block_lists.proofs.Bases.{bases-more, sum-more}
 use Rattle.block_lists.proofs.numbers.fill_bases.Goals as goal
 
 pub loop-size-preserved : goal.loop-size-preserved

@@ -1,7 +1,5 @@
-use Rattle.std.proofs.Common.{◌<◌, get_or, arith}
+use Rattle.std.proofs.Common.{get_or, arith}
 use Rattle.std.proofs.lemmas.List.Elements.{Contains-get_or}
-use Rattle.block_lists.specs.declared.row.BlockRow.{BlockRow}
-use Rattle.block_lists.specs.Numbers.{IsBasedOver}
 use Rattle.block_lists.proofs.Bases.{no_row}
 use Rattle.block_lists.proofs.numbers.fill_numbers.Goals as goal
 

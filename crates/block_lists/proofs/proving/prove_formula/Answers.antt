@@ -1,6 +1,5 @@
-use Rattle.std.proofs.Common.{subst}
 use Rattle.std.proofs.lemmas.Result.{IfOk-weaker}
-use Rattle.block_lists.proofs.Encoding.{each_value, formula_once, formula_range, outcome_is, proved_is}
+use Rattle.block_lists.proofs.Encoding.{formula_once, formula_range, outcome_is, proved_is}
 use Rattle.block_lists.proofs.proving.prove_formula.Goals as goal
 
 pub solve-requires-clause-range : goal.solve-requires-clause-range
