@@ -6,7 +6,9 @@ import contextlib
 import os
 import sys
 import tempfile
-from typing import BinaryIO, Iterator
+from typing import BinaryIO, Iterator, Optional, Sequence
+
+from .errors import OutputFault
 
 
 @contextlib.contextmanager
@@ -35,6 +37,13 @@ def written(path: str) -> Iterator[BinaryIO]:
         with contextlib.suppress(OSError):
             os.unlink(beside)
         raise
+
+
+def check_output(path: Optional[str], read: Sequence[str]) -> None:
+    """Raises OutputFault where the file to write, if one is named, is one of those that are read."""
+    for name in read if path is not None and os.path.isfile(path) else ():
+        if path is not None and os.path.exists(name) and os.path.samefile(path, name):
+            raise OutputFault("%s is read, and -o would write over it: nothing is written" % name)
 
 
 def said(fault: Exception) -> str:
