@@ -223,8 +223,6 @@ class Runner:
         schema = schema_of(text) if verb == "create" else None
         if schema is not None:
             self.schemas[schema.table] = schema
-        if verb == "dump":
-            return Answer(sent.file.path, text, verb, [state_text(self._marks.text().encode() + b"".join(lines))[:-1]], "", None)
         return Answer(sent.file.path, text, verb, [line[:-1] for line in lines], "", None)
 
     def _refused(self, sent: _Sent, text: str, verb: str, refusal: str) -> Answer:
@@ -371,6 +369,14 @@ def main(arguments: Sequence[str]) -> int:
     return status
 
 
+def _dumped(files: Sequence[ScriptFile], lines: Sequence[bytes]) -> List[bytes]:
+    """A dump as a kept state, with what the comments of the files say of columns."""
+    marks = Marks()
+    for file in files:
+        marks.add(marks_of(file.script))
+    return [state_text(marks.text().encode() + b"".join(line + b"\n" for line in lines))]
+
+
 def _print_answers(files: Sequence[ScriptFile], child: Child, stops: bool, out: BinaryIO) -> int:
     """Writes replies to a stream and refusals to standard error, in their order. 1 where a statement was refused, and else 0."""
     status = 0
@@ -384,7 +390,7 @@ def _print_answers(files: Sequence[ScriptFile], child: Child, stops: bool, out: 
             out.flush()
             tell_refusal(answer)
         else:
-            out.writelines(line + b"\n" for line in answer.lines)
+            out.writelines(_dumped(files, answer.lines) if answer.verb == "dump" else (line + b"\n" for line in answer.lines))
             if out.isatty():
                 out.flush()
     notes.end()
