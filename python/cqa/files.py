@@ -3,6 +3,7 @@
 from __future__ import annotations
 
 import contextlib
+import io
 import os
 import sys
 import tempfile
@@ -11,12 +12,29 @@ from typing import BinaryIO, Iterator, Optional, Sequence
 from .errors import OutputFault
 
 
+_is_unwritten = False
+
+
+@contextlib.contextmanager
+def unwritten() -> Iterator[None]:
+    """Within it no file and no standard output is written."""
+    global _is_unwritten
+    before, _is_unwritten = _is_unwritten, True
+    try:
+        yield
+    finally:
+        _is_unwritten = before
+
+
 @contextlib.contextmanager
 def written(path: str) -> Iterator[BinaryIO]:
     """A file to write, which takes the place of the one at a path where all went well, and else is gone.
 
     Where the path is no ordinary file, as /dev/stdout, it is written as it is.
     """
+    if _is_unwritten:
+        yield io.BytesIO()
+        return
     if os.path.exists(path) and not os.path.isfile(path):
         with open(path, "wb") as stream:
             yield stream
@@ -56,6 +74,9 @@ def said(fault: Exception) -> str:
 @contextlib.contextmanager
 def standard_output() -> Iterator[BinaryIO]:
     """Standard output as bytes, through a buffer of its own: where Python runs unbuffered, its own may write a part and drop the rest."""
+    if _is_unwritten:
+        yield io.BytesIO()
+        return
     sys.stdout.flush()
     with open(1, "wb", closefd=False) as stream:
         yield stream
