@@ -12,7 +12,7 @@ The answers are those of the program `cqa`, which is proved; this package starts
 from .answers import Attack, Classification, Explanation, Group, Range, UnionClassification
 from .conflicts import Conflicts, Disputed
 from .errors import (Closed, CqaError, Ended, InputTooLong, LoadFault, LoadWarning, MemoryRanOut, NoSuchName, NotBuilt, ReadingFailed, Refused,
-                     ReplyFault, ScaleWarning, StateFault, UnknownStatement, WordsUnreadable, WritingFailed)
+                     ReplyFault, ScaleFault, ScaleWarning, StateFault, UnknownStatement, WordsUnreadable, WritingFailed)
 from .rows import Rows
 from .scripts import Schema
 from .session import Session
@@ -20,6 +20,6 @@ from .session import Session
 __all__ = [
     "Attack", "Classification", "Closed", "Conflicts", "CqaError", "Disputed", "Ended", "Explanation", "Group", "InputTooLong",
     "LoadFault", "LoadWarning", "MemoryRanOut", "NoSuchName", "NotBuilt", "Range", "ReadingFailed", "Refused", "ReplyFault",
-    "Rows", "ScaleWarning", "Schema", "Session", "StateFault", "UnionClassification", "UnknownStatement", "WordsUnreadable",
+    "Rows", "ScaleFault", "ScaleWarning", "Schema", "Session", "StateFault", "UnionClassification", "UnknownStatement", "WordsUnreadable",
     "WritingFailed",
 ]

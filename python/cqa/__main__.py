@@ -2,15 +2,13 @@
 
 from __future__ import annotations
 
-import errno
 import io
-import os
 import sys
+from functools import partial
 from typing import Callable, Dict, Sequence
 
-from . import helping, load_command, looking, report, running, shell
-from .errors import CqaError, Ended, NotBuilt
-from .files import said
+from . import helping, load_command, looking, report, running, shell, trying
+from .ending import ended_with
 
 COMMANDS: Dict[str, Callable[[Sequence[str]], int]] = {
     "load": load_command.main,
@@ -20,6 +18,7 @@ COMMANDS: Dict[str, Callable[[Sequence[str]], int]] = {
     "report": report.main,
     "shell": shell.main,
     "help": helping.main,
+    "try": trying.main,
 }
 
 
@@ -36,29 +35,7 @@ def main(words: Sequence[str]) -> int:
     if command is None:
         print(said_commands, file=sys.stderr)
         return 2
-    try:
-        status = command(words[1:])
-        sys.stdout.flush()
-        return status
-    except BrokenPipeError:
-        return _no_output()
-    except KeyboardInterrupt:
-        return 130
-    except Ended as fault:
-        print("cqa %s: %s" % (words[0], fault), file=sys.stderr)
-        return fault.status or 1 if fault.status >= 0 else 128 - fault.status
-    except NotBuilt as fault:
-        print("cqa %s: %s" % (words[0], fault), file=sys.stderr)
-        return 127
-    except (CqaError, OSError) as fault:
-        print("cqa %s: %s" % (words[0], said(fault)), file=sys.stderr)
-        return _no_output() if isinstance(fault, OSError) and fault.errno == errno.ENOSPC else 1
-
-
-def _no_output() -> int:
-    """The status where output can't be written; what is kept back is thrown away, so that the end of the process is silent."""
-    os.dup2(os.open(os.devnull, os.O_WRONLY), 1)
-    return 4
+    return ended_with(words[0], partial(command, words[1:]))
 
 
 if __name__ == "__main__":

@@ -185,12 +185,17 @@ class TimeColumn(TextColumn):
         super().__init__(name)
         self._length: Optional[int] = None
 
+    @property
+    def form(self) -> str:
+        """A time of the form in which all fields are, or nothing where there is none."""
+        return "" if self._length is None else time_form(self._length)
+
     def take(self, fields: Sequence[str], where: Sequence[int], path: str, say: Say) -> Sequence[str]:
         distinct = set(fields)
-        if {*map(len, distinct)} <= {self._length} and all(map(_is_time, distinct)):
+        if {*map(len, distinct)} <= {self._length} and all(map(is_time, distinct)):
             return fields
         for at, field in enumerate(fields):
-            if not _is_time(field):
+            if not is_time(field):
                 hint = _DROP if not field else _null_hint(field) if field in NULL_WORDS else "; --date %s=DMY, MDY or YMD turns dates round" % self.name if _DATE.fullmatch(field) else ""
                 say(at, "%s: %s is no date, and no time in UTC as 2026-03-01T00:10:00Z%s" % (self.name, _shown(field), hint))
             elif self._length is None:
@@ -252,11 +257,17 @@ def _is_date(field: str) -> bool:
     return True
 
 
-def _is_time(field: str) -> bool:
+def is_time(field: str) -> bool:
+    """Whether a field is a date or a time in UTC."""
     found = _TIME.fullmatch(field)
     if found is None or not _is_date(found[1]):
         return False
     return found[2] is None or (int(found[2]) < 24 and int(found[3]) < 60 and int(found[4] or 0) < 60)
+
+
+def time_form(length: int) -> str:
+    """A time of the form that has so many letters."""
+    return {10: "2026-03-01", 17: "2026-03-01T00:10Z"}.get(length, "2026-03-01T00:10:00%sZ" % ("." + "0" * (length - 21))[:length - 20])
 
 
 def _check_text(name: str, fields: Sequence[str], joined: str, say: Say) -> None:

@@ -119,6 +119,15 @@ class ScaleWarning(UserWarning):
     """A statement or a query tests or inserts numbers of a column with places as they are stored."""
 
 
+class ScaleFault(CqaError, ValueError):
+    """A query puts together numbers with different places, or times of different forms; it compares a time to what is none, or a
+    number to one with more places. Or two scripts say different things of one column. Nothing was asked."""
+
+
+class OutputFault(CqaError):
+    """The file to write is one that is read in the same call."""
+
+
 class NoSuchName(CqaError, KeyError):
     """A method names a table or a column that isn't there."""
 

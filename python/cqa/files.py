@@ -3,10 +3,27 @@
 from __future__ import annotations
 
 import contextlib
+import io
 import os
 import sys
 import tempfile
-from typing import BinaryIO, Iterator
+from typing import BinaryIO, Iterator, Optional, Sequence
+
+from .errors import OutputFault
+
+
+_is_unwritten = False
+
+
+@contextlib.contextmanager
+def unwritten() -> Iterator[None]:
+    """Within it no file and no standard output is written."""
+    global _is_unwritten
+    before, _is_unwritten = _is_unwritten, True
+    try:
+        yield
+    finally:
+        _is_unwritten = before
 
 
 @contextlib.contextmanager
@@ -15,6 +32,9 @@ def written(path: str) -> Iterator[BinaryIO]:
 
     Where the path is no ordinary file, as /dev/stdout, it is written as it is.
     """
+    if _is_unwritten:
+        yield io.BytesIO()
+        return
     if os.path.exists(path) and not os.path.isfile(path):
         with open(path, "wb") as stream:
             yield stream
@@ -37,6 +57,13 @@ def written(path: str) -> Iterator[BinaryIO]:
         raise
 
 
+def check_output(path: Optional[str], read: Sequence[str]) -> None:
+    """Raises OutputFault where the file to write, if one is named, is one of those that are read."""
+    for name in read if path is not None and os.path.isfile(path) else ():
+        if path is not None and os.path.exists(name) and os.path.samefile(path, name):
+            raise OutputFault("%s is read, and -o would write over it: nothing is written" % name)
+
+
 def said(fault: Exception) -> str:
     """What a fault says, in a line: of one of the system the file and the cause."""
     if isinstance(fault, OSError) and fault.strerror:
@@ -47,6 +74,9 @@ def said(fault: Exception) -> str:
 @contextlib.contextmanager
 def standard_output() -> Iterator[BinaryIO]:
     """Standard output as bytes, through a buffer of its own: where Python runs unbuffered, its own may write a part and drop the rest."""
+    if _is_unwritten:
+        yield io.BytesIO()
+        return
     sys.stdout.flush()
     with open(1, "wb", closefd=False) as stream:
         yield stream

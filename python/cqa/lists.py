@@ -430,6 +430,10 @@ class Lists:
             kinds.insert(self._source_place(), (self.options.source_column, "text"))
         return Schema(self.options.table, dict(kinds), self._key, self._there.strict if self._there else self.options.strict)
 
+    def times(self) -> Dict[str, str]:
+        """The columns of times, each with a time of its form."""
+        return {column.name: column.form for column in self._columns if isinstance(column, TimeColumn) and column.form}
+
     def _source_place(self) -> int:
         """Where among the columns that of sources stands: behind all of a new table."""
         columns = list(self._there.columns) if self._there else []

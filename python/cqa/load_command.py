@@ -8,7 +8,7 @@ import warnings
 from typing import List, Optional, Sequence
 
 from .errors import LoadFault, LoadWarning, Refused
-from .files import standard_output, written
+from .files import check_output, standard_output, written
 from .lists import Lists
 from .loading import Source, load_script, options_of, parser, sources_of
 from .options import ListOptions, word_of
@@ -23,6 +23,7 @@ def main(arguments: Sequence[str]) -> int:
     words = told(parser(), arguments)
     try:
         options, sources = options_of(words), sources_of(words)
+        check_output(words.output or words.into, [path for path, _ in sources])
     except ValueError as fault:
         print("cqa load: %s" % fault, file=sys.stderr)
         return 2

@@ -11,9 +11,10 @@ from typing import IO, Callable, Dict, List, Optional, Sequence, Tuple
 
 from .blocks import create_text
 from .lists import Lists
+from .marks import Marks
 from .options import Form, ListOptions, word_of
 from .origins import origin_text
-from .scripts import Schema, remark_text
+from .scripts import Schema
 
 #: A list and what its rows have in the column of sources; None where there is no such column.
 Source = Tuple[str, Optional[str]]
@@ -41,7 +42,8 @@ def load_script(options: ListOptions, sources: Sequence[Source], out: IO[bytes],
         if lists.faults:
             return None
         places = {(options.table, word_of(name)): count for name, count in options.decimals.items()}
-        head = remark_text(places, {options.table: options.source_column} if sources[0][1] is not None else {})
+        times = {(options.table, name): form for name, form in lists.times().items()}
+        head = Marks(places, times, {options.table: options.source_column} if sources[0][1] is not None else {}).text()
         head += origin_text(options.table, lists.origins) + ("" if there else create_text(lists.schema()))
         size = blocks.tell() + len(head.encode("utf-8", "replace"))
         if size > _MOST_INPUT:

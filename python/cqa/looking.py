@@ -7,7 +7,8 @@ import re
 import sys
 from typing import List, Optional, Sequence
 
-from .files import standard_output, written
+from .conflicts import Conflicts
+from .files import check_output, standard_output, written
 from .running import Answer, loaded
 from .words import told as words_told
 
@@ -27,6 +28,7 @@ def csv_main(arguments: Sequence[str]) -> int:
     words.add_argument("files", nargs="+", metavar="FILE")
     words.add_argument("-o", "--output", metavar="FILE", help="the file to write, in place of standard output")
     told = words_told(words, arguments)
+    check_output(told.output, told.files)
     answers: List[Answer] = []
     session = loaded(told.files, answers)
     if session is None:
@@ -50,12 +52,13 @@ def conflicts_main(arguments: Sequence[str]) -> int:
     words.add_argument("first", metavar="FILE", help="a script")
     words.add_argument("others", nargs="*", metavar="FILE or TABLE",
                        help="a word that may be a table's name is one, as customer; another is a script, as b.cqa or ./customer")
-    words.add_argument("--source", metavar="COLUMN", help="the column of sources, which is no conflict (source)")
+    words.add_argument("--source", metavar="COLUMN", help="the column of sources, which is no conflict: else that which load made, if it did")
     words.add_argument("--csv", action="store_true", help="the values in conflict of one table as CSV, for a spreadsheet")
     words.add_argument("-o", "--output", metavar="FILE", help="the file to write, in place of standard output")
     told = words_told(words, arguments)
     tables = [word for word in told.others if _NAME.fullmatch(word)]
     files = [told.first] + [word for word in told.others if not _NAME.fullmatch(word)]
+    check_output(told.output, files)
     session = loaded(files)
     if session is None:
         print("cqa conflicts: nothing is written", file=sys.stderr)
@@ -72,12 +75,21 @@ def conflicts_main(arguments: Sequence[str]) -> int:
             return 1
         try:
             found = [session.conflicts(table, told.source) for table in tables or there]
+            for one in found:
+                _tell_source(one)
             text = found[0].listed().csv_text() if told.csv else "".join(map(str, found))
         except KeyError as fault:
             print("cqa conflicts: %s" % fault.args[0], file=sys.stderr)
             return 1
     _write(text, told.output)
     return 0
+
+
+def _tell_source(found: Conflicts) -> None:
+    """Says that a column called `source` counts as the others do where nothing says that it has the sources."""
+    if found.source is None and "source" in found.columns and "source" not in found.key:
+        print("cqa conflicts: note: %s.source counts as the other columns do; --source source says that it tells where a row is from" % found.table,
+              file=sys.stderr)
 
 
 def _write(text: str, path: Optional[str]) -> None:

@@ -10,11 +10,10 @@ from typing import Dict, List, NamedTuple, Optional, Tuple
 
 from .columns import csv_fault
 from .habits import advice_for
-from .scripts import Schema, Statement, open_part
+from .scripts import Schema, Statement, list_line, open_part
 
 _COMMENT_OR_TEXT = re.compile(rb"--[^\n]*|'[^']*(?:'|\Z)")
 _TOKEN = re.compile(rb"[A-Za-z_][A-Za-z0-9_]*|-?[0-9]+|'[^']*(?:''[^']*)*'|<>|<=|>=|[(),.=<>]")
-_OF_LIST = re.compile(rb"-- (.+):([0-9]+)[ \t\r]*\n\Z")
 _INT = re.compile(r"-?[0-9]+")
 _NAMED = ("UnknownTable", "UnknownColumn", "AmbiguousColumn", "SelfJoin", "DuplicateColumn", "BadKey", "TableExists")
 
@@ -101,6 +100,12 @@ def _of_row(tokens: List[Token], refusal: str, schemas: Dict[str, Schema], inner
 
 def _letters(text: bytes, offset: int) -> int:
     return len(text[:offset].decode("utf-8", "replace"))
+
+
+def place_at(script: bytes, statement: Statement, letters: int) -> Place:
+    """The place of so many letters of a statement's text."""
+    text = statement.text(script).decode("utf-8", "surrogateescape")
+    return _shown(script, statement.start + len(text[:letters].encode("utf-8", "surrogateescape")), "", "")
 
 
 def _shown(script: bytes, at: int, note: str, of_list: str) -> Place:
@@ -202,8 +207,8 @@ def _bad_record(script: bytes, statement: Statement, refusal: str, schemas: Dict
     note = causes[0] if causes else "it is no row of the table"
     if len(causes) > 1:
         note += "; and %d more" % (len(causes) - 1)
-    told = _OF_LIST.search(script[max(0, statement.start - 5000):statement.start])
-    of_list = "%s:%d" % (told[1].decode("utf-8", "replace"), int(told[2]) + line) if told else ""
+    told = list_line(script, statement)
+    of_list = "%s:%d" % (told[0], told[1] + line) if told else ""
     return at, note, of_list
 
 

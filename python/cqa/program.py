@@ -7,7 +7,7 @@ import os
 import shutil
 import subprocess
 import threading
-from typing import BinaryIO, List, Optional, Union
+from typing import IO, BinaryIO, Callable, Iterator, List, Optional, Protocol, Tuple, Union
 
 from .errors import Closed, Ended, NotBuilt, ended
 from .replies import END_LINE, END_STATEMENT, reply_lines
@@ -33,15 +33,64 @@ def found_program(given: Optional[str] = None) -> str:
     for path in candidates:
         if path and os.access(path, os.X_OK) and os.path.isfile(path):
             return path
-    raise NotBuilt("the program isn't built: `./cqa build` in the repository builds it; CQA_PROGRAM names one that is elsewhere")
+    raise NotBuilt("the program isn't built: in the repository `./cqa build` proves and builds it, and `./cqa try WORDS ..` answers in a "
+                   "minute or two, unproved; CQA_PROGRAM names one that is elsewhere")
 
 
 def _runnable(path: str) -> str:
     if not os.path.isfile(path):
-        raise NotBuilt("no program at %s: `./cqa build` in the repository builds it" % path)
+        raise NotBuilt("no program at %s: in the repository `./cqa build` proves and builds it, and `./cqa try WORDS ..` answers in a minute "
+                       "or two, unproved" % path)
     if not os.access(path, os.X_OK):
         raise NotBuilt("%s can't be run" % path)
     return path
+
+
+class Process(Protocol):
+    """What a child needs of a process."""
+
+    @property
+    def stdin(self) -> Optional[IO[bytes]]:
+        """What is sent."""
+
+    @property
+    def stdout(self) -> Optional[IO[bytes]]:
+        """What comes back."""
+
+    def wait(self) -> int:
+        """Waits for the end, and gives its status."""
+
+    def kill(self) -> None:
+        """Ends it."""
+
+
+#: Starts a program, the one at a path or the one that is found; whether Ctrl-C doesn't reach it. Gives its path and the process.
+Start = Callable[[Optional[str], bool], Tuple[str, Process]]
+
+
+def _started(given: Optional[str], is_apart: bool) -> Tuple[str, Process]:
+    path = found_program(given)
+    environment = dict(os.environ)
+    environment.setdefault("GLIBC_TUNABLES", "glibc.malloc.hugetlb=1")
+    try:
+        return path, subprocess.Popen([path, "run"], stdin=subprocess.PIPE, stdout=subprocess.PIPE, bufsize=_PIECE,
+                                      env=environment, start_new_session=is_apart)
+    except OSError as fault:
+        raise NotBuilt("%s can't be started: %s" % (path, fault.strerror or fault)) from None
+
+
+_start: Start = _started
+
+
+@contextlib.contextmanager
+def started_by(start: Start) -> Iterator[None]:
+    """Within it, children are started otherwise."""
+    global _start
+    before, _start = _start, start
+    try:
+        yield
+    finally:
+        _start = before
 
 
 class Child:
@@ -53,17 +102,10 @@ class Child:
 
     def __init__(self, program: Optional[str] = None, is_apart: bool = False) -> None:
         """Starts the program. is_apart: Ctrl-C at the terminal doesn't reach it. Raises NotBuilt where there is none."""
-        self.program = found_program(program)
+        self.program, self._process = _start(program, is_apart)
         self.is_apart = is_apart
         self.closed_by = ""  # why no statement can be sent any more
         self._lock = threading.Lock()
-        environment = dict(os.environ)
-        environment.setdefault("GLIBC_TUNABLES", "glibc.malloc.hugetlb=1")
-        try:
-            self._process = subprocess.Popen([self.program, "run"], stdin=subprocess.PIPE, stdout=subprocess.PIPE,
-                                             bufsize=_PIECE, env=environment, start_new_session=is_apart)
-        except OSError as fault:
-            raise NotBuilt("%s can't be started: %s" % (self.program, fault.strerror or fault)) from None
         self._input = _piped(self._process.stdin)
         self.replies = _piped(self._process.stdout)
 

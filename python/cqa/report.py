@@ -16,7 +16,7 @@ from .answers import Classification, Explanation, Range, against, explanation
 from .conflicts import Conflicts, Disputed
 from .drawing import HEADS, attack_graph
 from .errors import Refused, ScaleWarning
-from .files import standard_output, written
+from .files import check_output, standard_output, written
 from .rows import Cell, Rows
 from .running import QUERY_VERBS, Answer, loaded
 from .scripts import Schema, aggregate_of, parts_of, quoted, selected, tokens, without_comments
@@ -91,7 +91,7 @@ def main(arguments: Sequence[str]) -> int:
     words = argparse.ArgumentParser(prog="cqa report", description="A page of what script files make: tables, conflicts, and for each "
                                     "question its certain and its disputed rows. Where a statement is refused, nothing is written.")
     words.add_argument("files", nargs="+", metavar="FILE")
-    words.add_argument("--source", metavar="COLUMN", help="the column of sources, which is no conflict (source)")
+    words.add_argument("--source", metavar="COLUMN", help="the column of sources, which is no conflict: else that which load made, if it did")
     words.add_argument("-o", "--output", metavar="FILE", help="the page's file, in place of standard output")
     told = words_told(words, arguments)
     with warnings.catch_warnings():
@@ -100,6 +100,7 @@ def main(arguments: Sequence[str]) -> int:
 
 
 def _main(told: argparse.Namespace) -> int:
+    check_output(told.output, told.files)
     questions = Questions()
     session = loaded(told.files, questions.answers, before=questions.before)
     if session is None:

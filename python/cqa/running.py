@@ -11,13 +11,14 @@ import time
 from functools import partial
 from typing import BinaryIO, Callable, Dict, Iterator, List, NamedTuple, Optional, Sequence, Set, Tuple
 
-from .errors import InputTooLong
+from .errors import InputTooLong, ScaleFault, StateFault
 from .files import standard_output
-from .places import Place, place_of
+from .marks import Marks, marks_of, state_fault, state_text
+from .meaning import Meaning, copy_notes, meaning_of
+from .places import Place, place_at, place_of
 from .program import Child
 from .replies import END_STATEMENT, IS_REFUSAL
-from .scaling import shown_notes, statement_notes
-from .scripts import Schema, Statement, fault_of, remarks, schema_of, statements, verb_of
+from .scripts import Schema, Statement, fault_of, schema_of, statements, verb_of
 from .session import Session
 from .words import told as words_told
 
@@ -57,19 +58,38 @@ class ScriptFile:
             raise InputTooLong(6, path)
 
 
-#: A statement, and why it isn't sent.
-_Sent = Tuple[ScriptFile, Statement, str]
+class _Sent(NamedTuple):
+    """A statement, with what it means over the columns that the comments of scripts speak of. fault: why it isn't sent. cause: why it
+    isn't sent, in words of this package, and where in the statement, in letters."""
+
+    file: ScriptFile
+    statement: Statement
+    fault: str
+    meaning: Meaning
+    cause: Optional[Tuple[int, str]] = None
 
 
 class Runner:
     """Runs files as one script. A thread sends the statements, so that the program needn't wait for the replies to be read."""
 
-    def __init__(self, child: Child, files: Sequence[ScriptFile]) -> None:
+    def __init__(self, child: Child, files: Sequence[ScriptFile], is_strict: bool = False) -> None:
+        """is_strict: whether what has no right meaning is refused, and not only told. Raises ScaleFault where the files say different
+        things of a column, and StateFault where a kept state in one of them isn't whole."""
         self.child = child
         self.schemas: Dict[str, Schema] = {}
-        self._places: Dict[Tuple[str, str], int] = {}
+        self._is_strict = is_strict
+        self._marks = Marks()
+        self._own: Dict[str, Marks] = {}  # what the comments of each file say
         for file in files:
-            self._places.update(remarks(file.script)[0])
+            fault = state_fault(file.script)
+            if fault:
+                raise StateFault("%s: %s" % (file.path, fault))
+            marks = marks_of(file.script)
+            if self._marks.disagreement(marks):
+                raise ScaleFault("%s: %s" % (file.path, self._marks.disagreement(marks)))
+            self._marks.add(marks)
+            self._own[file.path] = marks
+        self._made: Dict[str, Schema] = {}  # the tables that the statements up to here make, where nothing is refused
         self.sent_bytes = 0
         self._bytes_before = 0
         self._counted: Tuple[Optional[ScriptFile], int, int] = (None, 0, 1)
@@ -89,9 +109,9 @@ class Runner:
                 if self._failure is not None:
                     raise self._failure
                 return
-            yield self._answer(*sent)
+            yield self._answer(sent)
             self.answered += 1
-            if self._is_stopped or not sent[1].complete:
+            if self._is_stopped or not sent.statement.complete:
                 return
 
     def answers_in_step(self, before: Callable[[str], None]) -> Iterator[Answer]:
@@ -99,13 +119,13 @@ class Runner:
         before: called with the first word of each statement before it is sent."""
         for file in self._files:
             for statement in statements(file.script):
-                fault = fault_of(file.script, statement)
+                sent = self._looked_at(file, statement)
                 before(verb_of(statement.text(file.script).decode("utf-8", "replace")))
-                if not fault:
+                if not sent.fault and sent.cause is None:
                     with contextlib.suppress(BrokenPipeError):
-                        self._send_statement(file.script, statement)
+                        self._send_statement(sent)
                         self.child.flush()
-                yield self._answer(file, statement, fault)
+                yield self._answer(sent)
                 if not statement.complete:
                     return
 
@@ -130,13 +150,28 @@ class Runner:
     def _send_file(self, file: ScriptFile) -> bool:
         """Sends the statements of a file, and says whether the next file may follow."""
         for statement in statements(file.script):
-            fault = fault_of(file.script, statement)
-            self._put((file, statement, fault))
+            sent = self._looked_at(file, statement)
+            self._put(sent)
             if self._is_stopped or not statement.complete:
                 return False
-            if not fault:
-                self._send_statement(file.script, statement)
+            if not sent.fault and sent.cause is None:
+                self._send_statement(sent)
         return True
+
+    def _looked_at(self, file: ScriptFile, statement: Statement) -> _Sent:
+        """A statement with what is to know of it before it is sent."""
+        fault = fault_of(file.script, statement)
+        if fault or not self._marks:
+            return _Sent(file, statement, fault, Meaning(""))
+        text = statement.text(file.script).decode("utf-8", "surrogateescape")
+        if statement.block is not None:
+            return _Sent(file, statement, "", Meaning(text, notes=copy_notes(file.script, statement, self._marks, self._own[file.path])))
+        schema = schema_of(text) if verb_of(text) == "create" else None
+        if schema is not None:
+            self._made.setdefault(schema.table, schema)
+        meaning = meaning_of(text, self._marks, lambda: self._made)
+        faults = [*meaning.wrong, *(meaning.faults if self._is_strict else ())]
+        return _Sent(file, statement, "", meaning, (faults[0].at, faults[0].text) if faults else None)
 
     def _put(self, sent: _Sent) -> None:
         """Says that a statement is sent; where too many are unanswered, all are sent in full before it waits."""
@@ -146,7 +181,11 @@ class Runner:
             self.child.flush()
             self._sent.put(sent)
 
-    def _send_statement(self, script: bytes, statement: Statement) -> None:
+    def _send_statement(self, sent: _Sent) -> None:
+        script, statement = sent.file.script, sent.statement
+        if sent.meaning.edits:
+            self.child.write(sent.meaning.sent().encode("utf-8", "surrogateescape") + b";" + END_STATEMENT)
+            return
         for begin in range(statement.start, statement.end, _PIECE):
             end = min(begin + _PIECE, statement.end)
             self.child.write(script[begin:end])
@@ -155,14 +194,12 @@ class Runner:
         if self._sent.qsize() <= 1:
             self.child.flush()
 
-    def _answer(self, file: ScriptFile, statement: Statement, fault: str) -> Answer:
-        answer = self._plain_answer(file, statement, fault)
-        if answer.verb in QUERY_VERBS or self._places:
-            answer = answer._replace(line=self._line_of(file, statement.start))
-        if not self._places:
-            return answer
-        notes, shown = statement_notes(answer.text, self._places), shown_notes(answer.text, self._places)
-        return answer._replace(notes=notes, shown=shown)
+    def _answer(self, sent: _Sent) -> Answer:
+        answer = self._plain_answer(sent)
+        notes = [*sent.meaning.notes, *(fault.text for fault in sent.meaning.faults if sent.cause is None)]
+        if answer.verb in QUERY_VERBS or notes:
+            answer = answer._replace(line=self._line_of(sent.file, sent.statement.start))
+        return answer._replace(notes=notes, shown=sent.meaning.shown)
 
     def _line_of(self, file: ScriptFile, start: int) -> int:
         """The line of a statement, counted on from the last one that was asked for."""
@@ -173,21 +210,24 @@ class Runner:
         self._counted = file, start, line
         return line
 
-    def _plain_answer(self, file: ScriptFile, statement: Statement, fault: str) -> Answer:
-        text = statement.text(file.script).decode("utf-8", "replace")
+    def _plain_answer(self, sent: _Sent) -> Answer:
+        text = sent.statement.text(sent.file.script).decode("utf-8", "replace")
         verb = verb_of(text)
-        if fault:
-            return self._refused(file, statement, text, verb, fault)
+        if sent.cause is not None:
+            return Answer(sent.file.path, text, verb, [], sent.cause[1], place_at(sent.file.script, sent.statement, sent.cause[0]))
+        if sent.fault:
+            return self._refused(sent, text, verb, sent.fault)
         lines = self.child.reply(verb)
         if lines and IS_REFUSAL.match(lines[0]):
-            return self._refused(file, statement, text, verb, lines[0][:-1].decode("utf-8", "replace"))
+            return self._refused(sent, text, verb, sent.meaning.refusal(lines[0][:-1].decode("utf-8", "replace")))
         schema = schema_of(text) if verb == "create" else None
         if schema is not None:
             self.schemas[schema.table] = schema
-        return Answer(file.path, text, verb, [line[:-1] for line in lines], "", None)
+        return Answer(sent.file.path, text, verb, [line[:-1] for line in lines], "", None)
 
-    def _refused(self, file: ScriptFile, statement: Statement, text: str, verb: str, refusal: str) -> Answer:
-        return Answer(file.path, text, verb, [], refusal, place_of(file.script, statement, refusal, self.schemas))
+    def _refused(self, sent: _Sent, text: str, verb: str, refusal: str) -> Answer:
+        place = place_of(sent.file.script, sent.statement, refusal, self.schemas)
+        return Answer(sent.file.path, text, verb, [], refusal, place)
 
 
 class Progress:
@@ -237,7 +277,7 @@ class Notes:
 
     def tell(self, answer: Answer) -> None:
         """Writes the notes of an answer that weren't told yet to standard error."""
-        for note in (*answer.notes, *(answer.shown if self._is_shown else ())):
+        for note in (*answer.notes, *(answer.shown if self._is_shown and not answer.refusal else ())):
             if note not in self._known:
                 self._known.add(note)
                 if len(self._known) <= _MOST_NOTES:
@@ -249,12 +289,12 @@ class Notes:
             print("cqa: and %d more notes like these" % (len(self._known) - _MOST_NOTES), file=sys.stderr)
 
 
-def run_files(files: Sequence[ScriptFile], child: Child, stops: bool) -> Iterator[Answer]:
+def run_files(files: Sequence[ScriptFile], child: Child, stops: bool, is_strict: bool = False) -> Iterator[Answer]:
     """Runs files one after the other as one script and gives each answer; `stops` ends it behind the first refusal.
 
-    Raises Ended where the program ends.
+    Raises Ended where the program ends, and as `Runner`.
     """
-    runner = Runner(child, files)
+    runner = Runner(child, files, is_strict)
     progress = Progress(runner, sum(len(file.script) for file in files))
     try:
         for answer in runner.answers():
@@ -282,7 +322,7 @@ def loaded(paths: Sequence[str], answers: Optional[List[Answer]] = None, is_apar
     try:
         for file in files:
             session.heed(file.script)
-        run = run_files(files, child, False) if before is None else Runner(child, files).answers_in_step(partial(before, session))
+        run = run_files(files, child, False, True) if before is None else Runner(child, files, True).answers_in_step(partial(before, session))
         for answer in run:
             notes.tell(answer)
             if answer.refusal:
@@ -329,6 +369,14 @@ def main(arguments: Sequence[str]) -> int:
     return status
 
 
+def _dumped(files: Sequence[ScriptFile], lines: Sequence[bytes]) -> List[bytes]:
+    """A dump as a kept state, with what the comments of the files say of columns."""
+    marks = Marks()
+    for file in files:
+        marks.add(marks_of(file.script))
+    return [state_text(marks.text().encode() + b"".join(line + b"\n" for line in lines))]
+
+
 def _print_answers(files: Sequence[ScriptFile], child: Child, stops: bool, out: BinaryIO) -> int:
     """Writes replies to a stream and refusals to standard error, in their order. 1 where a statement was refused, and else 0."""
     status = 0
@@ -342,7 +390,7 @@ def _print_answers(files: Sequence[ScriptFile], child: Child, stops: bool, out: 
             out.flush()
             tell_refusal(answer)
         else:
-            out.writelines(line + b"\n" for line in answer.lines)
+            out.writelines(_dumped(files, answer.lines) if answer.verb == "dump" else (line + b"\n" for line in answer.lines))
             if out.isatty():
                 out.flush()
     notes.end()

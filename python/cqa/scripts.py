@@ -4,7 +4,7 @@ from __future__ import annotations
 
 import csv
 import re
-from typing import Dict, Iterator, List, Mapping, NamedTuple, Optional, Tuple, Union
+from typing import Dict, Iterator, List, NamedTuple, Optional, Tuple, Union
 
 _GAP = re.compile(rb"(?:[ \t\r\n]+|--[^\n]*)*")
 _MARK = re.compile(rb"[;'\-]")
@@ -14,8 +14,7 @@ _BLOCK_END = re.compile(rb"\\\.\r?(?:\n|\Z)")
 _COMMENT_OR_TEXT = re.compile(r"--[^\n]*|('[^']*(?:'|\Z))")
 _COMMENT_OR_TEXT_BYTES = re.compile(rb"--[^\n]*|('[^']*(?:'|\Z))")
 _TOKEN = re.compile(r"[A-Za-z_][A-Za-z0-9_]*|-?[0-9]+|'[^']*(?:''[^']*)*'|<>|<=|>=|[(),.=<>]")
-_PLACES = re.compile(rb"^-- cqa: column (\w+)\.(\w+) has (\d+) places$", re.M)
-_SOURCES = re.compile(rb"^-- cqa: column (\w+)\.(\w+) has the sources$", re.M)
+_OF_LIST = re.compile(rb"-- (.+):([0-9]+)[ \t\r]*\n\Z")
 _CREATE = re.compile(r"create\s+(strict\s+)?table\s+(\w+)\s*\((.*),\s*primary\s+key\s*\(([^)]*)\)\s*\)\s*\Z", re.S)
 
 
@@ -56,32 +55,20 @@ def statements(script: bytes, at: int = 0) -> Iterator[Statement]:
         at = _past_gap(script, statement.end)
 
 
-def remarks(script: bytes) -> Tuple[Dict[Tuple[str, str], int], Dict[str, str]]:
-    """What the comments between statements say of columns: the places of those that hold numbers with places, by table and
-    column, and each table's column of sources. What stands in a text or in a block is no comment."""
-    places: Dict[Tuple[str, str], int] = {}
-    sources: Dict[str, str] = {}
-    for comments in _gaps(script):
-        places.update({(table.decode(), column.decode()): int(count) for table, column, count in _PLACES.findall(comments)})
-        sources.update({table.decode(): column.decode() for table, column in _SOURCES.findall(comments)})
-    return places, sources
-
-
-def _gaps(script: bytes) -> Iterator[bytes]:
-    """What stands before the first statement and between statements, up to the last comment that may speak of a column."""
-    last = script.rfind(b"\n-- cqa: column ")
+def gaps(script: bytes, last: int) -> Iterator[Tuple[int, bytes]]:
+    """What stands before the first statement and between statements, each with its place, up to the one at the place `last`."""
     at = _past_gap(script, 0)
-    yield script[:at]
-    while 0 <= at < last:
+    yield 0, script[:at]
+    while at <= last:
         end = _statement(script, at, len(script)).end
         at = _past_gap(script, end)
-        yield script[end:at]
+        yield end, script[end:at]
 
 
-def remark_text(places: Mapping[Tuple[str, str], int], sources: Mapping[str, str]) -> str:
-    """Comments that `remarks` reads."""
-    return "".join(["-- cqa: column %s.%s has %d places\n" % (*name, count) for name, count in places.items()]
-                   + ["-- cqa: column %s.%s has the sources\n" % name for name in sources.items()])
+def list_line(script: bytes, statement: Statement) -> Optional[Tuple[str, int]]:
+    """The list and its line from which the first record of a block is, by the comment before it, or nothing."""
+    told = _OF_LIST.search(script[max(0, statement.start - 5000):statement.start])
+    return (told[1].decode("utf-8", "replace"), int(told[2])) if told else None
 
 
 def _past_gap(script: bytes, at: int) -> int:

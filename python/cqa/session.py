@@ -9,32 +9,31 @@ import tempfile
 import warnings
 from dataclasses import replace
 from decimal import Decimal
+from enum import Enum
 from types import TracebackType
-from typing import Callable, Dict, Iterable, Iterator, List, Mapping, Optional, Sequence, Tuple, Type, Union
+from typing import Dict, Iterable, Iterator, List, Mapping, Optional, Sequence, Tuple, Type, Union
 
 from . import answers
 from .answers import Classification, Explanation, Group, Kept, Range, UnionClassification
 from .blocks import create_text, rows_script
 from .columns import is_in_range, scaled
 from .conflicts import Conflicts, conflicts_of
-from .errors import LoadFault, LoadWarning, NoSuchName, Refused, ReplyFault, ScaleWarning, StateFault, UnknownStatement
+from .errors import LoadFault, LoadWarning, NoSuchName, Refused, ReplyFault, ScaleFault, ScaleWarning, StateFault, UnknownStatement
 from .files import written
 from .loading import Source, load_script
+from .marks import Marks, is_state, marks_of, state_fault, state_text
+from .meaning import Meaning, copy_notes, is_of_form, meaning_of
 from .options import ByList, ListOptions, forms_by_list, word_of
 from .origins import Origin, origin_text, origins_of
 from .program import Child
 from .replies import IS_REFUSAL, row_of
 from .rows import Cell, Rows
-from .scaling import places_of, query_notes, scaled_tests, shown_notes, statement_notes, stored, tables_of
-from .scripts import (Schema, Statement, aggregate_of, fault_of, parts_of, quoted, remark_text, remarks, row_text, selected, shown_schema, statements,
-                      tokens, verb_of)
+from .scaling import places_of, shown_number, stored
+from .scripts import Schema, Statement, aggregate_of, fault_of, quoted, selected, shown_schema, statements, tokens, verb_of
 
 #: Statements that not every program knows: how each begins, and the reply of a program that doesn't know it.
-NEWER = (("disputed", b"error 2 Syntax at 0\n"), ("against", b"error 2 Syntax at 0\n"), ("prove", b"error 2 Syntax at 0\n"),
-         ("range", b"error 2 Syntax at 0\n"), ("prefer", b"error 2 Syntax at 0\n"), ("show conflicts", b"error 2 Syntax at 5\n"))
-
-_STATE_HEAD = "-- cqa state: kept by the Python package; it is a script, and its last line tells its size\n"
-_STATE_END = re.compile(rb"-- cqa state: (\d+) tables, (\d+) rows\n\Z")
+NEWER = (("disputed", "error 2 Syntax at 0"), ("against", "error 2 Syntax at 0"), ("prove", "error 2 Syntax at 0"),
+         ("range", "error 2 Syntax at 0"), ("prefer", "error 2 Syntax at 0"), ("show conflicts", "error 2 Syntax at 5"))
 
 
 class Session:
@@ -51,8 +50,7 @@ class Session:
         stands, or of the path. Or goes on with a child that runs. Raises NotBuilt where there is none."""
         self._child = child or Child(program)
         self._settings = b""
-        self._places: Dict[Tuple[str, str], int] = {}
-        self._sources: Dict[str, str] = {}
+        self._marks = Marks()
         self._origins: Dict[str, List[Origin]] = {}
 
     def __enter__(self) -> "Session":
@@ -76,17 +74,16 @@ class Session:
         """Sends one statement, with or without its `;` (a `copy` with its block), and gives the lines of its reply, where line
         feeds in texts end no line.
 
-        Raises Refused, UnknownStatement where the installed program is too old for it, ValueError where the text is no complete
-        statement or more than one, and Ended where the program ends.
+        Raises Refused, UnknownStatement where the installed program is too old for it, ScaleFault for a number with more places than its
+        column, ValueError where the text is no complete statement or more than one, and Ended where the program ends.
 
-        The statement is sent as it is written: columns with places are tested and inserted as they are stored, and ScaleWarning
-        says so.
+        The reply's rows are as they are stored. A number with a point is sent as its column stores it; ScaleWarning says where a number
+        without one stands for another, and where columns with different places are put together.
         """
-        self._warn_of(statement)
-        return self._lines(statement)
+        return self._lines(statement, _TOLD)
 
-    def _lines(self, statement: str) -> List[str]:
-        """As `tell`, for a statement that this package wrote."""
+    def _lines(self, statement: str, care: Optional["_Care"] = None) -> List[str]:
+        """As `tell`. care: how columns with places are seen to, and strictly where it isn't told."""
         text = statement.encode("utf-8")
         parts = list(statements(text))
         if len(parts) == 1 and not parts[0].complete and parts[0].block is None:
@@ -95,76 +92,82 @@ class Session:
         if len(parts) != 1 or not parts[0].complete:
             raise ValueError("one complete statement is wanted, and this is %s: %r"
                              % ("none" if len(parts) < 2 else "%d" % len(parts), statement[:200]))
-        return [line.decode("utf-8") for line in self._told(text, parts[0])]
+        return [line.decode("utf-8") for line in self._told(text, parts[0], care or _STRICT)]
 
     def run(self, script: Union[str, bytes]) -> List[List[str]]:
         """Sends the statements of a script one after the other and gives the lines of each reply. The first refusal ends it and
-        is raised, and so is a script that ends within a statement (ValueError), before anything is sent. Statements are sent as
-        they are written, as by `tell`."""
-        return list(self._replies(script.encode("utf-8") if isinstance(script, str) else script, self._warn_of))
+        is raised, and so is a script that ends within a statement (ValueError), or a kept state in it that isn't whole (StateFault), before
+        anything is sent. Statements are sent as by `tell`."""
+        return list(self._replies(script.encode("utf-8") if isinstance(script, str) else script, _TOLD))
 
-    def _replies(self, script: bytes, warn: Callable[[str], None]) -> Iterator[List[str]]:
-        """Sends the statements of a script; `warn` is called with each before."""
+    def _replies(self, script: bytes, care: "_Care") -> Iterator[List[str]]:
+        """Sends the statements of a script."""
+        fault = state_fault(script)
+        if fault:
+            raise StateFault(fault)
         self.heed(script)
         parts = list(statements(script))
         if parts and not parts[-1].complete:
             raise ValueError("the script ends within a statement: %r" % script[parts[-1].start:][:200])
+        own = marks_of(script)
         for part in parts:
-            warn(part.text(script).decode("utf-8", "replace"))
-            yield [line.decode("utf-8") for line in self._told(script, part)]
+            yield [line.decode("utf-8") for line in self._told(script, part, _MADE if is_state(script) else care, own)]
 
-    def _warn_of(self, statement: str) -> None:
-        for note in self._notes(statement)[0]:
-            _warn(note, ScaleWarning)
-
-    def _notes(self, statement: str) -> Tuple[List[str], List[str]]:
-        """What is to know of the numbers that a statement names, and of those that its reply shows as they are stored."""
-        return (statement_notes(statement, self._places), shown_notes(statement, self._places)) if self._places else ([], [])
-
-    def _query(self, query: str, tables: Sequence[str] = ()) -> str:
-        """A query, or tests of tables, as they are sent: without the `;` that may stand at the end, and with numbers that have a
-        point as their columns store them."""
-        plain = query.strip().rstrip(";")
-        if not self._places:
-            return plain
-        return "union".join(self._scaled_part(part, tables or tables_of(part)) for part in parts_of(plain))
-
-    def _scaled_part(self, part: str, tables: Sequence[str]) -> str:
-        for note in query_notes(part, tables, self._places):
-            _warn(note, ScaleWarning)
-        return scaled_tests(part, tables, self._places)
+    def meaning(self, text: str) -> Meaning:
+        """What a statement means over the columns of which the comments of scripts and the options of `load` say something."""
+        return meaning_of(text, self._marks, lambda: {schema.table: schema for schema in self.tables()})
 
     def heed(self, script: bytes) -> None:
-        """Heeds what the comments at the head of a script say of columns: numbers with places, and columns of sources."""
-        places, sources = remarks(script)
-        self._places.update(places)
-        self._sources.update(sources)
+        """Heeds what the comments between the statements of a script say of columns, numbers with places, times, and columns of sources,
+        and from which lists rows come. Raises ScaleFault where they say something else of a column than is known."""
+        marks = marks_of(script)
+        fault = self._marks.disagreement(marks)
+        if fault:
+            raise ScaleFault(fault)
+        self._marks.add(marks)
+        self._heed_origins(script)
+
+    def _heed_origins(self, script: bytes) -> None:
         for table, origins in origins_of(script).items():
             known = self._origins.setdefault(table, [])
             known += [origin for origin in origins if origin not in known]
 
-    def _told(self, script: bytes, part: Statement, is_made: bool = False) -> List[bytes]:
-        """Sends a statement of a script and gives its reply's lines without line feeds. is_made: this package wrote the script,
-        so that its quotes needn't be looked at."""
-        text = part.text(script).decode("utf-8", "replace")
+    def _told(self, script: bytes, part: Statement, care: "_Care", own: Optional[Marks] = None) -> List[bytes]:
+        """Sends a statement of a script and gives its reply's lines without line feeds. own: what the script's comments say."""
+        text = part.text(script).decode("utf-8", "surrogateescape")
         verb = verb_of(text)
-        fault = "" if is_made else fault_of(script, part)
+        fault = "" if care is _MADE else fault_of(script, part)
         if fault:
             raise Refused(fault, text, "its block has a quote that is never closed, or that something stands behind")
-        lines = self._child.tell(script[part.start:part.end], verb)
+        meaning = self.meaning(text) if self._marks and part.block is None and care is not _MADE else Meaning(text)
+        self._see_to(meaning, care)
+        if self._marks and part.block is not None and care is not _MADE:
+            for note in copy_notes(script, part, self._marks, own or Marks()):
+                _warn(note, ScaleWarning)
+        sent = meaning.sent().encode("utf-8", "surrogateescape") + b";" if meaning.edits else script[part.start:part.end]
+        lines = self._child.tell(sent, verb)
         if lines and IS_REFUSAL.match(lines[0]):
-            self._refuse(lines[0], text)
+            self._refuse(meaning.refusal(lines[0][:-1].decode("utf-8")), text)
         if verb == "set":
             self._settings = script[part.start:part.end] + b"\n"
         return [line[:-1] for line in lines]
 
-    def _refuse(self, line: bytes, text: str) -> None:
+    @staticmethod
+    def _see_to(meaning: Meaning, care: "_Care") -> None:
+        """Raises what has no right meaning, and warns of what is to know."""
+        faults = [*meaning.wrong, *(meaning.faults if care is _STRICT else ())]
+        if faults:
+            raise ScaleFault(faults[0].text)
+        for note in (*meaning.notes, *(fault.text for fault in meaning.faults)):
+            _warn(note, ScaleWarning)
+
+    def _refuse(self, line: str, text: str) -> None:
         """Raises what a refusal is."""
         plain = " ".join(text.split())
         for word, reply in NEWER:
             if re.match(word + r"\b", plain) and line == reply:
-                raise UnknownStatement(line[:-1].decode(), text, self.program, word)
-        raise Refused(line[:-1].decode("utf-8"), text)
+                raise UnknownStatement(line, text, self.program, word)
+        raise Refused(line, text)
 
     # -- load and look ------------------------------------------------------------------------------------------------------
 
@@ -214,11 +217,12 @@ class Session:
         if there is not None and sources[0][1] is not None and options.source_column not in there.columns:
             raise ValueError("%s has no column %s" % (options.table, options.source_column))
         key = options.key or (there.key if there else [])
-        return self._loaded(replace(options, key=key, decimals=self._decimals(options)), sources, there)
+        times = [column for table, column in self._marks.times if table == options.table]
+        return self._loaded(replace(options, key=key, decimals=self._decimals(options), times=[*options.times, *times]), sources, there)
 
     def _decimals(self, options: ListOptions) -> Dict[str, int]:
         """The number of places by column: of those that are told and those of the table, the greater."""
-        places = {column: count for (table, column), count in self._places.items() if table == options.table}
+        places = {column: count for (table, column), count in self._marks.places.items() if table == options.table}
         for name, count in options.decimals.items():
             places[word_of(name)] = max(count, places.get(word_of(name), 0))
         return places
@@ -231,6 +235,8 @@ class Session:
             lists = load_script(options, sources, file, faults.append, there)
             if lists is None:
                 raise LoadFault(faults)
+            if there is not None:
+                self._check_times(there, lists.times())
             changed = self._converted_table(there, lists.schema(), options.decimals) if there is not None else ""
             file.seek(0)
             script = file.read()
@@ -246,10 +252,21 @@ class Session:
             raise
         if self._child is not before:
             before.close()
-        self.heed(script)
+        self._marks.add(marks_of(script))
+        self._heed_origins(script)
         for note in lists.notes():
             _warn(note, LoadWarning)
         return sum(int(lines[0].split(b" ")[1]) for lines in replies if lines[0].startswith((b"copied ", b"inserted ")))
+
+    def _check_times(self, there: Schema, times: Mapping[str, str]) -> None:
+        """Sees whether what a table has in columns of times is of the form of further lists. Raises LoadFault where it isn't."""
+        for name, form in times.items():
+            if name not in there.columns or self._marks.times.get((there.table, name)) == form:
+                continue
+            values = [row_of(line)[0] for line in self._lines("possible select %s from %s;" % (name, there.table))[:-1]]
+            wrong = next((value for value in values if not is_of_form(str(value), form)), None)
+            if wrong is not None:
+                raise LoadFault(["%s: %s: %r, which was loaded before, is of another form than %s" % (there.table, name, wrong, form)])
 
     def _load_replies(self, script: bytes) -> List[List[bytes]]:
         """The replies to a script of lists. A refusal names its list."""
@@ -257,7 +274,7 @@ class Session:
         part: Optional[Statement] = None
         try:
             for part in statements(script):
-                replies.append(self._told(script, part, is_made=True))
+                replies.append(self._told(script, part, _MADE))
         except Refused as refused:
             found = re.search(rb"-- ([^\n]*):[0-9]+\n\Z", script[:part.start][-5000:]) if part is not None else None
             if found is None:
@@ -268,7 +285,7 @@ class Session:
     def _converted_table(self, old: Schema, new: Schema, decimals: Mapping[str, int]) -> str:
         """The script of a table with the kinds and places that further lists need, or nothing where it has them: ints become texts,
         numbers get more places. Raises LoadFault where a stored text is no such number."""
-        scales = {name: places - self._places.get((old.table, name), 0) for name, places in decimals.items() if name in old.columns}
+        scales = {name: places - self._marks.places.get((old.table, name), 0) for name, places in decimals.items() if name in old.columns}
         if old.columns == new.columns and not any(scales.values()):
             return ""
         names = list(old.columns)
@@ -293,7 +310,7 @@ class Session:
                 parts.append(changed.encode("utf-8"))
         child = Child(self.program, self._child.is_apart)
         try:
-            list(Session(child=child)._replies(b"".join(parts), lambda _: None))
+            list(Session(child=child)._replies(b"".join(parts), _MADE))
         except BaseException:
             child.kill()
             raise
@@ -316,14 +333,14 @@ class Session:
     def conflicts(self, table: str, source: Optional[str] = None) -> Conflicts:
         """The keys of a table whose rows differ: how many by column, and for each key its values with their sources.
 
-        source: the column of sources; where it isn't told, that with which the table was loaded, or one called `source`.
+        source: the column of sources; where it isn't told, that with which the table was loaded. Another one, whatever it is called, counts.
         Rows that differ in their source alone are in no conflict. Raises NoSuchName, a KeyError, where the table isn't there.
         """
         schema = self._there(table)
         names = schema.key + [name for name in schema.columns if name not in schema.key]
         if source is not None and source not in schema.columns:
             raise NoSuchName("%s has no column %s" % (table, source))
-        told = source or self._sources.get(table) or ("source" if "source" in schema.columns else None)
+        told = source or self._marks.sources.get(table)
         lines = self._lines("possible select %s from %s;" % (", ".join(names), table))
         rows = self._scaled(map(row_of, lines[:-1]), self._column_places(names, [table]))
         return conflicts_of(table, names, schema.key, told if told not in schema.key else None, rows)
@@ -365,7 +382,11 @@ class Session:
 
     def _of_row(self, verb: str, row: Sequence[Cell], query: str) -> List[str]:
         """The reply to a statement about a row of a query's answer."""
-        return self._lines("%s row %s for %s;" % (verb, row_text(self._stored(row, query)), self._query(query)))
+        columns, tables = selected(query)
+        places = [places_of(name, tables, self._marks.places) for name in columns] + [0] * len(row)
+        values = [shown_number(Decimal(value).scaleb(-count), count) if count and isinstance(value, int) else quoted(value)
+                  for value, count in zip(self._stored(row, query), places)]
+        return self._lines("%s row (%s) for %s;" % (verb, ", ".join(values), _plain(query)))
 
     def range(self, aggregate: str) -> Range:
         """The ends of `sum credit from customer where ..`, of `count from ..`, `min ..` or `max ..` over all repairs.
@@ -380,7 +401,7 @@ class Session:
         return self._groups(aggregate, self._range_lines(aggregate))
 
     def _range_lines(self, aggregate: str) -> List[str]:
-        return self._lines("range %s;" % self._query(aggregate, aggregate_of(aggregate).tables))
+        return self._lines("range %s;" % _plain(aggregate))
 
     def _groups(self, aggregate: str, lines: List[str]) -> List[Group]:
         of_what, of_groups = self._aggregated(aggregate)
@@ -398,25 +419,25 @@ class Session:
 
     def classify(self, query: str) -> Classification:
         """How hard the query is, by its attacks. Raises Refused."""
-        return answers.classification(self._lines("classify %s;" % self._query(query)))
+        return answers.classification(self._lines("classify %s;" % _plain(query)))
 
     def classify_union(self, union: str) -> UnionClassification:
         """How hard each part of a union is, and whether two parts share a table that isn't strict. Raises Refused."""
-        return answers.union_classification(self._lines("classify %s;" % self._query(union)))
+        return answers.union_classification(self._lines("classify %s;" % _plain(union)))
 
     def plan(self, query: str) -> Optional[List[str]]:
         """The tables in the order in which they can be gone through without a search, or None where there is none. Raises Refused."""
-        lines = self._lines("plan %s;" % self._query(query))
+        lines = self._lines("plan %s;" % _plain(query))
         return None if lines == ["no plan"] else [line.split(" ")[2] for line in lines]
 
     def sql(self, query: str) -> Optional[str]:
         """One query in SQL for the certain rows of a query or of a union, or None where there is none: a query has no plan, or
         parts share a table that isn't strict. Raises Refused."""
-        lines = self._lines("sql %s;" % self._query(query))
+        lines = self._lines("sql %s;" % _plain(query))
         return None if lines[0].startswith("no ") else "".join(line + "\n" for line in lines)
 
     def _answer(self, verb: str, query: str) -> Rows:
-        return self.rows_of(query, self._lines("%s %s;" % (verb, self._query(query))))
+        return self.rows_of(query, self._lines("%s %s;" % (verb, _plain(query))))
 
     def rows_of(self, query: str, lines: Sequence[str]) -> Rows:
         """The rows of a query's reply, with the query's columns."""
@@ -428,13 +449,13 @@ class Session:
 
     def _column_places(self, columns: Sequence[str], tables: Sequence[str]) -> List[int]:
         """The places of each selected column; -1 where it has none."""
-        if not self._places:
+        if not self._marks.places:
             return []
         found = []
         for column in columns:
             owner, _, name = column.rpartition(".")
             owners = [owner] if owner else tables
-            found.append(next((self._places[table, name] for table in owners if (table, name) in self._places), -1))
+            found.append(next((self._marks.places[table, name] for table in owners if (table, name) in self._marks.places), -1))
         return found if max(found, default=-1) >= 0 else []
 
     @staticmethod
@@ -447,18 +468,18 @@ class Session:
         """The values of an answer's row as they are stored: those of columns with places are scaled. Raises as `insert`."""
         columns, tables = selected(query)
         names = [*columns, *("value %d" % at for at in range(len(columns) + 1, len(row) + 1))]
-        return tuple(stored(value, places_of(name, tables, self._places), name) for value, name in zip(row, names))
+        return tuple(stored(value, places_of(name, tables, self._marks.places), name) for value, name in zip(row, names))
 
     def _shown_kept(self, kept: Sequence[Kept]) -> Tuple[Kept, ...]:
         """Rows of tables with the numbers of columns with places as Decimal."""
-        if not self._places or not kept:
+        if not self._marks.places or not kept:
             return tuple(kept)
         schemas = {schema.table: schema for schema in self.tables()}
         return tuple((table, next(self._scaled([row], self._column_places(list(schemas[table].columns), [table])))) for table, row in kept)
 
     def _shown_explanation(self, told: Explanation) -> Explanation:
         """An explanation with the numbers of columns with places as Decimal."""
-        if told.table is not None and told.key is not None and self._places:
+        if told.table is not None and told.key is not None and self._marks.places:
             names = self._there(told.table).key
             return told._replace(key=next(self._scaled([told.key], self._column_places(names, [told.table]))))
         return told._replace(kept=self._shown_kept(told.kept))
@@ -466,7 +487,7 @@ class Session:
     def _aggregated(self, aggregate: str) -> Tuple[int, int]:
         """The places of the column of an aggregate, and of that of its groups; -1 where there are none."""
         parts = aggregate_of(aggregate)
-        of_what, of_groups = (places_of(name, parts.tables, self._places) if name else 0 for name in (parts.column, parts.group))
+        of_what, of_groups = (places_of(name, parts.tables, self._marks.places) if name else 0 for name in (parts.column, parts.group))
         return of_what or -1, of_groups or -1
 
     # -- change and keep ----------------------------------------------------------------------------------------------------
@@ -474,40 +495,43 @@ class Session:
     def delete(self, table: str, where: str = "") -> int:
         """Takes away the rows of a table for which the tests hold, as "id = 1 and source = 'shop'"; all rows without tests.
         Gives their number. Raises Refused."""
-        return int(self._lines("delete from %s%s;" % (table, " where " + self._query(where, [table]) if where else ""))[0].split(" ")[1])
+        return int(self._lines("delete from %s%s;" % (table, " where " + _plain(where) if where else ""))[0].split(" ")[1])
 
     def prefer(self, table: str, where: str) -> int:
         """Of each block in which a row passes the tests, takes away the rows that don't. Gives the number of rows taken away.
         Raises Refused; UnknownStatement where the program is too old."""
-        return int(self._lines("prefer %s where %s;" % (table, self._query(where, [table])))[0].split(" ")[1])
+        return int(self._lines("prefer %s where %s;" % (table, _plain(where)))[0].split(" ")[1])
 
     def insert(self, table: str, rows: Sequence[Sequence[Cell]]) -> int:
         """Puts rows into a table and gives the number of those that weren't there. Numbers of a column with places, int or
         Decimal, are scaled: 12 and Decimal("12.00") are the same. Raises Refused; TypeError for a value that is no int, Decimal or
-        str (a float isn't exact), and ValueError for a number with more places than its column."""
-        schema = self.schema(table) if self._places else None
+        str (a float isn't exact), ValueError for a number with more places than its column, and ScaleFault for a text that is no time of
+        the form in which its column has them."""
+        schema = self.schema(table) if self._marks else None
         names = list(schema.columns) if schema else []
         values = ", ".join("(" + ", ".join(quoted(value) for value in self._stored_row(table, names, row)) + ")" for row in rows)
-        return int(self._lines("insert into %s values %s;" % (table, values))[0].split(" ")[1])
+        return int(self._lines("insert into %s values %s;" % (table, values), _MADE)[0].split(" ")[1])
 
     def _stored_row(self, table: str, names: Sequence[str], row: Sequence[Cell]) -> Iterator[Union[int, str]]:
         for at, value in enumerate(row):
             name = names[at] if at < len(names) else ""
-            yield stored(value, self._places.get((table, name), 0), name or "value %d" % (at + 1))
+            form = self._marks.times.get((table, name), "")
+            if form and isinstance(value, str) and not is_of_form(value, form):
+                raise ScaleFault("%s.%s has times as %s, and %r is none" % (table, name, form, value))
+            yield stored(value, self._marks.places.get((table, name), 0), name or "value %d" % (at + 1))
 
     def save(self, path: str) -> None:
         """Keeps the tables in a file: a script that makes them again, beside which only comments stand. It is written beside its
         place and then moved, so that no half of it is ever there."""
-        shown = self._lines("show tables;")
-        rows = sum(int(found[1]) for found in (re.search(r" rows (\d+) blocks \d+$", line) for line in shown[:-1]) if found)
-        dump = self._lines("dump;")
+        state = self.state()
         with written(path) as file:
-            file.write(_STATE_HEAD.encode())
-            file.write(remark_text(self._places, self._sources).encode())
-            file.write("".join(origin_text(table, origins) for table, origins in self._origins.items()).encode("utf-8", "replace"))
-            for line in dump:
-                file.write(line.encode("utf-8") + b"\n")
-            file.write(("-- cqa state: %d tables, %d rows\n" % (len(shown) - 1, rows)).encode())
+            file.write(state)
+
+    def state(self) -> bytes:
+        """The text of a kept state: a script that makes the tables again, between two lines by which it is seen whether it is whole."""
+        dump = "".join(line + "\n" for line in self._lines("dump;"))
+        origins = "".join(origin_text(table, origins) for table, origins in self._origins.items())
+        return state_text((self._marks.text() + origins + dump).encode("utf-8", "replace"))
 
     @classmethod
     def restored(cls, path: str, program: Optional[str] = None) -> "Session":
@@ -515,21 +539,33 @@ class Session:
         where it can't be read, Refused where the program refuses it."""
         with open(path, "rb") as file:
             script = file.read()
-        end = _STATE_END.search(script[-200:])
-        if not script.startswith(_STATE_HEAD.encode()) or end is None:
-            raise StateFault("%s is no whole state: its first and its last line aren't those that `save` writes" % path)
+        fault = state_fault(script) if is_state(script) else "it is no kept state: its first line isn't that of one"
+        if fault:
+            raise StateFault("%s: %s" % (path, fault))
         session = cls(program)
         try:
-            list(session._replies(script, lambda _: None))
-            shown = session.tell("show tables;")
-            rows = sum(int(line.split(" rows ")[-1].split(" ")[0]) for line in shown[:-1])
-            if (len(shown) - 1, rows) != (int(end[1]), int(end[2])):
-                raise StateFault("%s isn't whole: it makes %d tables with %d rows, and has to make %s with %s"
-                                 % (path, len(shown) - 1, rows, end[1].decode(), end[2].decode()))
+            list(session._replies(script, _MADE))
         except BaseException:
             session.close()
             raise
         return session
+
+
+class _Care(Enum):
+    """How a statement is looked at: what this package made is sent as it is; what a user tells word by word is sent with warnings; over
+    what a user asks of this package nothing is let through that has no right meaning."""
+
+    MADE = 0
+    TOLD = 1
+    STRICT = 2
+
+
+_MADE, _TOLD, _STRICT = _Care.MADE, _Care.TOLD, _Care.STRICT
+
+
+def _plain(query: str) -> str:
+    """A query without the `;` that may stand at its end."""
+    return query.strip().rstrip(";")
 
 
 def _warn(text: str, category: Type[Warning]) -> None:

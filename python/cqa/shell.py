@@ -13,7 +13,7 @@ import warnings
 from types import FrameType
 from typing import Iterator, List, Optional, Sequence, Set
 
-from .errors import CqaError, Ended, LoadFault, Refused, ScaleWarning
+from .errors import CqaError, Ended, LoadFault, Refused, ScaleFault, ScaleWarning
 from .files import said
 from .habits import advice_for
 from .loading import options_of, parser, sources_of
@@ -126,26 +126,42 @@ class Shell:
     def _run(self, statement: Statement) -> None:
         began = time.monotonic()
         script = self._buffer[statement.start:statement.end]
-        self._tell_notes(statement.text(self._buffer).decode("utf-8", "replace"))
+        text = statement.text(self._buffer).decode("utf-8", "surrogateescape")
+        verb = verb_of(text)
         try:
-            with _patience(), warnings.catch_warnings():
-                warnings.simplefilter("ignore", ScaleWarning)
+            with _patience(), self._telling_notes():
                 replies = self.session.run(script)
-            print("".join(line + "\n" for lines in replies for line in lines), end="")
+            self._tell_shown(text)
+            if verb == "dump":
+                print(self.session.state().decode("utf-8"), end="")
+            else:
+                print("".join(line + "\n" for lines in replies for line in lines), end="")
         except Refused as refused:
             self._refused(statement, refused.line)
+        except ScaleFault as fault:
+            self._fault(str(fault))
         if self._is_timing:
             print("%.1f ms" % (1000 * (time.monotonic() - began)))
-        if verb_of(statement.text(self._buffer).decode("utf-8", "replace")) in ("create", "alter"):
+        if verb in ("create", "alter"):
             self._look()
 
-    def _tell_notes(self, text: str) -> None:
-        """Says what is to know of the numbers that a statement names, and once of those that it shows."""
-        named, shown = self.session._notes(text)
-        shown = [note for note in shown if note not in self._shown_notes]
-        self._shown_notes.update(shown)
-        for note in (*named, *shown):
-            print("note: " + note, file=sys.stderr)
+    @contextlib.contextmanager
+    def _telling_notes(self) -> Iterator[None]:
+        """Tells what is to know of the numbers of a statement, behind it."""
+        with warnings.catch_warnings(record=True) as notes:
+            warnings.simplefilter("always", ScaleWarning)
+            try:
+                yield
+            finally:
+                for note in notes:
+                    print("note: %s" % note.message, file=sys.stderr)
+
+    def _tell_shown(self, text: str) -> None:
+        """Says once of each column that a reply shows it as it is stored."""
+        for note in self.session.meaning(text).shown:
+            if note not in self._shown_notes:
+                self._shown_notes.add(note)
+                print("note: " + note, file=sys.stderr)
 
     def _refused(self, statement: Statement, line: str) -> None:
         place = place_of(self._buffer, statement, line, {schema.table: schema for schema in self._schemas})

@@ -12,7 +12,7 @@ from support import ProgramCase, lines
 VOID = {"meta", "br", "img", "link", "input"}
 ALLOWED = {"html", "head", "meta", "title", "style", "body", "h1", "h2", "h3", "p", "b", "ul", "li", "div", "span", "bdi", "table", "thead", "tbody", "tr", "th",
            "td", "code", "pre", "details", "summary", "svg", "defs", "marker", "path", "rect", "g", "text"}
-SCRIPT = """
+SCRIPT = """-- cqa: column customer.source has the sources
 create table customer (id int, name text, city text, source text, primary key (id));
 create table branch (city text, region text, primary key (city));
 insert into customer values (1, 'Ada', 'Oslo', 'crm'), (1, 'Ada', 'Bergen', 'shop'), (2, 'Bo', 'Hamar', 'crm'), (3, 'Cy', 'Oslo', 'shop');
@@ -95,7 +95,7 @@ class Pages(ProgramCase):
     def test_a_tested_column_with_places_is_told_once(self) -> None:
         self.file("s.cqa", "-- cqa: column c.credit has 2 places\ncreate table c (id int, credit int, primary key (id));\nask select id from c where credit > 1000;\n")
         self.assertEqual(self.command("report", "s.cqa", "-o", "out.html")[::2],
-                         (0, "s.cqa:3: note: credit is stored times 100: 1000 stands for 10.00 here; 1000.00 is written 100000\n"))
+                         (0, "s.cqa:3: note: credit is stored times 100: 1000 stands for 10.00 here; write 1000.00 for 1000\n"))
 
     def test_unions(self) -> None:
         read = self.page(SCRIPT + "ask select id from customer where city = 'Oslo' union select id from customer where city = 'Hamar';\n"

@@ -16,7 +16,8 @@ from cqa.habits import HABITS, advice_for
 from cqa.places import place_of
 from cqa.program import Child
 from cqa.running import ScriptFile, run_files
-from cqa.scripts import aggregate_of, parts_of, remarks, schema_of, selected, statements
+from cqa.marks import Marks, marks_of
+from cqa.scripts import aggregate_of, parts_of, schema_of, selected, statements
 
 STAFF = "create table staff (id int, name text, room int, primary key (id));\n"
 
@@ -54,9 +55,10 @@ class Scripts(unittest.TestCase):
         self.assertEqual(aggregate_of("range sum from from from where sum = 1 and t = 'group by x'"), ("sum", "from", ["from"], ""))
         self.assertEqual(aggregate_of("count from t"), ("count", "", ["t"], ""))
         self.assertEqual(aggregate_of("min r.y from r, s where r.p = s.id group by s.z"), ("min", "r.y", ["r", "s"], "s.z"))
-        self.assertEqual(remarks(b"-- cqa: column t.a has 2 places\n-- cqa: column t.b has the sources\ncreate"), ({("t", "a"): 2}, {"t": "b"}))
-        self.assertEqual(remarks(b"dump;\n-- cqa: column t.a has 2 places\n"), ({("t", "a"): 2}, {}))
-        self.assertEqual(remarks(b"copy t;\n-- cqa: column t.a has 2 places\n\\.\n"), ({}, {}))
+        self.assertEqual(marks_of(b"-- cqa: column t.a has 2 places\n-- cqa: column t.b has the sources\n-- cqa: column t.c has times as 2026-03-01\ncreate"),
+                         Marks({("t", "a"): 2}, {("t", "c"): "2026-03-01"}, {"t": "b"}))
+        self.assertEqual(marks_of(b"dump;\n-- cqa: column t.a has 2 places\n"), Marks({("t", "a"): 2}))
+        self.assertEqual(marks_of(b"copy t;\n-- cqa: column t.a has 2 places\n\\.\n"), Marks())
 
 
 class Places(ProgramCase):

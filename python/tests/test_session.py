@@ -290,7 +290,7 @@ class Lists(ProgramCase):
         with cqa.Session() as db:
             db.run("create table t (id int, city text, source text, primary key (id));\n"
                    "insert into t values (1, 'Oslo', 'a'), (1, 'Oslo ', 'b'), (1, 'Oslo\u00a0', 'c\nd'), (2, '\x1b[31m', 'a'), (2, 'e\u0301', 'b'), (2, '\u00e9', 'c');")
-            self.assertEqual(str(db.conflicts("t")), "t: 2 keys, 2 in conflict: city 2\n"
+            self.assertEqual(str(db.conflicts("t", "source")), "t: 2 keys, 2 in conflict: city 2\n"
                              "1  city: Oslo (a) | Oslo\u2423 (b) | Oslo\\u00a0 (c\\nd)\n2  city: \u241b[31m (a) | e\\u0301 (b) | \u00e9 (c)\n")
 
     def test_one_list_after_the_other(self) -> None:

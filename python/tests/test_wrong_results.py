@@ -138,14 +138,10 @@ class EverySender(ProgramCase):
                 db.tell('copy c;\n2,"Bo\n3,Cy\n4,"Dag"\n\\.\n')
             self.assertEqual(db.rows("c"), [])
 
-    def test_in_the_shell_and_in_states(self) -> None:
+    def test_in_the_shell(self) -> None:
         status, out, told = self.command("shell", stdin=self.UNENDED.encode())
         self.assertEqual((status, lines(out)), (1, ["created c", "0 rows"]))
         self.assertIn("error 19 BadCsv record 1: something stands behind a closing quote", told)
-        state = self.file("state", "-- cqa state: kept by the Python package; it is a script, and its last line tells its size\n"
-                          + self.UNENDED + "-- cqa state: 1 tables, 1 rows\n")
-        with self.assertRaises(cqa.Refused):
-            cqa.Session.restored(state)
 
 
 class Comments(ProgramCase):
@@ -211,19 +207,21 @@ class ColumnsWithPlaces(ProgramCase):
         told = self.db.explain((Decimal("900.00"),), "select credit from c")
         self.assertEqual([row for table, row in told.kept if row[0] == 1], [(1, Decimal("7.00"))])
         self.db.run("create table a (id int, amt int, primary key (id));")
-        with self.assertWarnsRegex(cqa.ScaleWarning, "c.credit and a.amt are compared as they are stored, times 100 and times 1"):
+        with self.assertRaisesRegex(cqa.ScaleFault, "c.credit has 2 places and a.amt has none, and they are compared: load a by --decimal amt:2; "
+                                    "where it is stored so already, the line `-- cqa: column a.amt has 2 places` says it"):
             self.db.certain("exists from a, c where c.credit = a.amt")
+        self.db.run("-- cqa: column a.amt has 2 places\ninsert into a values (1, 7.00);")
+        self.assertEqual(self.db.possible("select amt from a, c where c.credit = a.amt"), [(Decimal("7.00"),)])
 
     def test_scripts_are_told(self) -> None:
         told = self.command("load", "--table", "c", "--key", "id", "--decimal", "credit:2", "A.csv", "-o", "load.cqa")[2]
-        self.assertIn("cqa load: credit is stored times 100: statements write 1000 as 100000\n", told)
+        self.assertIn("cqa load: credit is stored times 100: statements write 1000 as 1000.00, or as 100000\n", told)
         self.file("q.cqa", "ask select id, credit from c where credit >= 1000;\ninsert into c values (4, 12);\nask select id from c where credit > 10.5;\n")
-        test = "q.cqa:1: note: credit is stored times 100: 1000 stands for 10.00 here; 1000.00 is written 100000"
-        insert = "q.cqa:2: note: c.credit is stored times 100: statements write 1000 as 100000"
-        third = ["q.cqa:3: note: credit is stored times 100: 10.5 is written 1050", "q.cqa:3: error 2 Syntax at 38"]
+        test = "q.cqa:1: note: credit is stored times 100: 1000 stands for 10.00 here; write 1000.00 for 1000"
+        insert = "q.cqa:2: note: c.credit is stored times 100: 12 stands for 0.12 here; write 12.00 for 12"
         shown = "q.cqa:1: note: credit is shown as it is stored, times 100"
-        self.assertEqual(lines(self.command("run", "load.cqa", "q.cqa")[2]), [test, shown, insert, *third])
-        self.assertEqual(lines(self.command("csv", "load.cqa", "q.cqa")[2])[:-1], [test, insert, *third])
+        self.assertEqual(lines(self.command("run", "load.cqa", "q.cqa")[2]), [test, shown, insert])
+        self.assertEqual(self.command("csv", "load.cqa", "q.cqa"), (0, "id\n1\n2\n3\n", test + "\n" + insert + "\n"))
         told = self.command("shell", "load.cqa", stdin=b"ask select id, credit from c where credit >= 1000;\n")[2]
         self.assertEqual(lines(told), [test.replace("q.cqa:1: ", ""), shown.replace("q.cqa:1: ", "")])
 

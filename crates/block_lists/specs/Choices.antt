@@ -4,11 +4,11 @@ use Rattle.std.specs.List.{sum}
 use Rattle.block_lists.specs.declared.row.BlockRow.{BlockRow}
 use Rattle.block_lists.specs.declared.row.TheConstants.{MOST_GROUP_LISTS, MOST_GROUP_ROWS}
 
--- the row is one of its block's
+-- there is such a row: its block, and in it a row at its place
 abbrev pub IsThere : List ℕ → BlockRow → Type 0
 IsThere sizes x = x.row < slice_index sizes x.block
 
--- the rows of lists are
+-- there are all rows of the lists
 abbrev pub AreThere : List ℕ → List (List BlockRow) → Type 0
 AreThere sizes lists = (names : List BlockRow) → Contains lists names → (x : BlockRow) → Contains names x → IsThere sizes x
 
@@ -36,7 +36,7 @@ IsChoice (s ∷ sizes) (r ∷ c) = (r < s) × IsChoice sizes c
 abbrev pub Chooses : List ℕ → BlockRow → Type 0
 Chooses c x = slice_get c x.block ≡ Some x.row
 
--- all rows of the list are
+-- all rows of the list are chosen
 abbrev pub HoldsWhole : List ℕ → List BlockRow → Type 0
 HoldsWhole c names = (x : BlockRow) → Contains names x → Chooses c x
 
@@ -48,7 +48,7 @@ HoldsSome c lists = (names : List BlockRow) × Contains lists names × HoldsWhol
 abbrev pub IsForcedBy : List ℕ → List (List BlockRow) → Type 0
 IsForcedBy sizes lists = (c : List ℕ) → IsChoice sizes c → HoldsSome c lists
 
--- a choice that holds none whole
+-- a choice that holds no list whole
 pub record IsAvoidedBy (sizes : List ℕ) (lists : List (List BlockRow)) (c : List ℕ) : Type 0 where
   pub choice : IsChoice sizes c
   pub avoids : HoldsSome c lists → ⊥

@@ -19,7 +19,7 @@ GroupDecides =
 abbrev pub PicksAvoid : Type 0
 PicksAvoid = (sizes : List ℕ) (lists : List (List BlockRow)) (cnf : Cnf) (values : List Bool) → IsGroupFormula sizes lists cnf → IsModel cnf values → IsAvoidedBy sizes lists (first_trues sizes values)
 
--- What is written of the formula of a group is read again as it.
+-- The formula of a group can be written: its numbers are in the ranges of the format.
 abbrev pub GroupFormulaIsWritable : Type 0
 GroupFormulaIsWritable = (sizes : List ℕ) (lists : List (List BlockRow)) (cnf : Cnf) → IsGroup sizes lists → IsGroupFormula sizes lists cnf → IsWritable cnf
 

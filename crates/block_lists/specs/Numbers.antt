@@ -13,6 +13,7 @@ abbrev pub bases_from : ℕ → List ℕ → List ℕ
 bases_from n [] = []
 bases_from n (s ∷ sizes) = n ∷ bases_from (n + s) sizes
 
+-- the number of a row, from 1 on
 abbrev pub number_over : List ℕ → BlockRow → ℕ
 number_over bases x = slice_index bases x.block + 1 + x.row
 
@@ -20,9 +21,11 @@ number_over bases x = slice_index bases x.block + 1 + x.row
 abbrev pub IsBasedOver : List ℕ → BlockRow → Type 0
 IsBasedOver bases x = (x.block < length bases) × (slice_index bases x.block + x.row < MOST_GROUP_ROWS)
 
+-- each row of a list is
 abbrev pub AreBasedOver : List ℕ → List BlockRow → Type 0
 AreBasedOver bases names = (x : BlockRow) → Contains names x → IsBasedOver bases x
 
+-- and of each of the lists
 abbrev pub AreAllBasedOver : List ℕ → List (List BlockRow) → Type 0
 AreAllBasedOver bases lists = (names : List BlockRow) → Contains lists names → AreBasedOver bases names
 

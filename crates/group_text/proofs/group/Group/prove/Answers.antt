@@ -1,0 +1,9 @@
+use Rattle.std.proofs.Common.{ℕ, List, subst, IfOk}
+use Rattle.block_lists.specs.Judging.{IsProved}
+use Rattle.group_text.specs.Groups.{Draft}
+use Rattle.group_text.proofs.group.Group.prove.Goals as goal
+
+pub returns : goal.returns
+returns c =
+    subst (λ (d : Draft). IfOk c.prove.result (IsProved d.sizes d.lists c.args.budget c.prove.new.room.choice.items)) c.self.view_is
+    (subst (λ (xs : List ℕ). IfOk c.prove.result (IsProved xs c.self.inside.lists c.args.budget c.prove.new.room.choice.items)) c.as_slice.ensures.value c.prove.ensures)
