@@ -13,13 +13,13 @@ use Rattle.cnf_form.specs.declared.formula.Cnf.{Cnf}
 use Rattle.cnf_form.specs.declared.log.Log.{Log}
 use Rattle.cnf_form.specs.declared.header.TheConstants.{MOST_CLAUSES, MOST_VARIABLES}
 use Rattle.cnf_form.specs.Literals.{AreVarsInRange, SatisfiesAll, literals, negative, positive}
-use Rattle.cnf_form.specs.Logs.{Refutes}
+use Rattle.cnf_form.specs.Logs.{Refutes, AreConsecutive}
 use Rattle.cnf_form.specs.Spent.{IsSpentLog, NoVarTwice}
 use Rattle.cnf_form.specs.Writing.{IsWritable}
 use Rattle.cnf_form.proofs.Sound.{refutation_sound}
 use Rattle.cdcl.specs.declared.outcome.Outcome.{Outcome}
 use Rattle.cdcl.specs.declared.outcome.Outcome.TheVariants.{Sat, Unsat, Spent}
-use Rattle.cdcl.specs.Outcomes.{AreConsecutive, IsModel, IsOnce, OutcomeIs}
+use Rattle.cdcl.specs.Outcomes.{IsModel, IsOnce, OutcomeIs}
 use Rattle.block_lists.specs.declared.row.BlockRow.{BlockRow}
 use Rattle.block_lists.specs.declared.proving.Proved.{Proved}
 use Rattle.block_lists.specs.declared.judging.Judged.{Judged}

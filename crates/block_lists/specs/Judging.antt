@@ -3,11 +3,10 @@ use Rattle.std.specs.Prelude.{◌≡◌, ℕ, ◌+◌, ◌≤◌, List, Bool, le
 use Rattle.std.specs.List.{sum}
 use Rattle.cnf_form.specs.declared.formula.Cnf.{Cnf}
 use Rattle.cnf_form.specs.declared.log.Log.{Log}
-use Rattle.cnf_form.specs.Logs.{Refutes}
+use Rattle.cnf_form.specs.Logs.{Refutes, AreConsecutive}
 use Rattle.cnf_form.specs.Spent.{IsSpentLog}
 use Rattle.cdcl.specs.declared.outcome.Outcome.{Outcome}
 use Rattle.cdcl.specs.declared.outcome.Outcome.TheVariants as outcome
-use Rattle.cdcl.specs.Outcomes.{AreConsecutive}
 use Rattle.block_lists.specs.declared.row.BlockRow.{BlockRow}
 use Rattle.block_lists.specs.declared.judging.Judged.{Judged}
 use Rattle.block_lists.specs.declared.judging.Judged.TheVariants as judged

@@ -10,13 +10,12 @@ use Rattle.cnf_form.specs.declared.formula.Cnf.{Cnf}
 use Rattle.cnf_form.specs.declared.log.Step.{Step}
 use Rattle.cnf_form.specs.declared.log.Step.TheVariants.{Add, Delete}
 use Rattle.cnf_form.specs.Literals.{opposite, literals}
-use Rattle.cnf_form.specs.Logs.{Live, HintsPass, numbered, with_clause, StepsPass, Passes, added, Refutes}
+use Rattle.cnf_form.specs.Logs.{Live, HintsPass, numbered, with_clause, StepsPass, Passes, added, Refutes, AreConsecutive}
 use Rattle.cnf_form.specs.Propagation.{ReachesEmpty, StaysOpen}
 use Rattle.cnf_form.specs.Spent.{AreNew, OnlyAdds, IsSpentLog}
 use Rattle.search_trail.specs.Trail.{At}
 use Rattle.search_trail.specs.Analysis.{ChainPasses}
 use Rattle.cdcl.specs.Lines.{AreLines, IsLineStep, IsLastStep, EndsEmpty, EndsSpent, added_lits, learnt}
-use Rattle.cdcl.specs.Outcomes.{AreConsecutive}
 use Rattle.cdcl.proofs.States.{literals_count}
 use Rattle.search_trail.proofs.Places.{At-push_cases}
 

@@ -1,11 +1,9 @@
 -- What the answers of a solver mean.
-use Rattle.std.specs.Prelude.{◌≡◌, ℕ, ◌≤◌, ◌+◌, ◌-◌, ◌^◌, Bool, false, List, [], ◌∷◌, Contains, length, slice_index_or}
+use Rattle.std.specs.Prelude.{◌≡◌, ℕ, ◌≤◌, ◌+◌, ◌-◌, ◌^◌, Bool, false, List, Contains, length, slice_index_or}
 use Rattle.cnf_form.specs.declared.formula.Lit.{Lit}
 use Rattle.cnf_form.specs.declared.formula.Cnf.{Cnf}
-use Rattle.cnf_form.specs.declared.log.Step.{Step}
-use Rattle.cnf_form.specs.declared.log.Step.TheVariants.{Add, Delete}
 use Rattle.cnf_form.specs.Literals.{literals, SatisfiesAll}
-use Rattle.cnf_form.specs.Logs.{Refutes}
+use Rattle.cnf_form.specs.Logs.{Refutes, AreConsecutive}
 use Rattle.cnf_form.specs.Spent.{NoVarTwice, IsSpentLog}
 use Rattle.cdcl.specs.declared.outcome.Outcome.{Outcome}
 use Rattle.cdcl.specs.declared.outcome.Outcome.TheVariants.{Sat, Unsat, Spent}
@@ -21,12 +19,6 @@ assignment values v = slice_index_or values (v - 1) false
 -- a value for each variable of the formula, which satisfy every clause
 abbrev pub IsModel : Cnf → List Bool → Type 0
 IsModel cnf values = (length values ≡ cnf.vars) × SatisfiesAll (assignment values) (literals cnf.clauses)
-
--- additions alone, under the ids that follow n
-abbrev pub AreConsecutive : ℕ → List Step → Type 0
-AreConsecutive n [] = Unit {0}
-AreConsecutive n (Add id clause hints ∷ steps) = (id ≡ n + 1) × AreConsecutive (n + 1) steps
-AreConsecutive n (Delete ids ∷ steps) = ⊥
 
 -- what each outcome says of the formula
 abbrev pub OutcomeIs : Cnf → ℕ → Outcome → Type 0

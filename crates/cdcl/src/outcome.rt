@@ -4,10 +4,10 @@ ghost use Rattle.std.specs.Prelude.{◌≡◌, ◌<◌, ◌≤◌, ◌+◌, ◌^
 ghost use Rattle.cnf_form.specs.declared.formula.Cnf.{Cnf};
 ghost use Rattle.cnf_form.specs.declared.log.Log.{Log};
 ghost use Rattle.cnf_form.specs.Literals.{AreVarsInRange, literals};
-ghost use Rattle.cnf_form.specs.Logs.{Refutes};
+ghost use Rattle.cnf_form.specs.Logs.{Refutes, AreConsecutive};
 ghost use Rattle.cnf_form.specs.Spent.{IsSpentLog};
 ghost use Rattle.cdcl.specs.Looking.{IsUnattached};
-ghost use Rattle.cdcl.specs.Outcomes.{AreConsecutive, AttemptIs, IsModel, IsOnce, OutcomeIs};
+ghost use Rattle.cdcl.specs.Outcomes.{AttemptIs, IsModel, IsOnce, OutcomeIs};
 
 use crate::solver::{Solver, Verdict};
 use cnf_form::{Cnf, Log};

@@ -1,7 +1,7 @@
 -- Which logs pass over a formula, and which refute it. Clauses are live under ids, and an addition follows from live
 -- clauses by unit propagation in the order of its hints (LRAT without its RAT steps: Cruz-Filipe, Heule, Hunt, Kaufmann
 -- and Schneider-Kamp, CADE 2017).
-use Rattle.std.specs.Prelude.{◌≡◌, ◌≢◌, ℕ, zero, suc, ◌<◌, ℤ, pos, negsuc, List, [], ◌∷◌, ◌⊎◌, map, Contains, length, Bool, Option, Some, None, slice_get, eqb}
+use Rattle.std.specs.Prelude.{◌≡◌, ◌≢◌, ℕ, zero, suc, ◌<◌, ◌+◌, ℤ, pos, negsuc, List, [], ◌∷◌, ◌⊎◌, map, Contains, length, Bool, Option, Some, None, slice_get, eqb}
 use Rattle.std.specs.Map.{update}
 use Rattle.cnf_form.specs.declared.formula.Lit.{Lit}
 use Rattle.cnf_form.specs.declared.formula.Cnf.{Cnf}
@@ -76,6 +76,12 @@ added (Delete ids ∷ steps) = added steps
 -- The steps pass, and one adds the empty clause.
 abbrev pub Refutes : Cnf → List Step → Type 0
 Refutes cnf steps = Passes cnf steps × Contains (added steps) []
+
+-- additions alone, under the ids that follow n
+abbrev pub AreConsecutive : ℕ → List Step → Type 0
+AreConsecutive n [] = Unit {0}
+AreConsecutive n (Add id clause hints ∷ steps) = (id ≡ n + 1) × AreConsecutive (n + 1) steps
+AreConsecutive n (Delete ids ∷ steps) = ⊥
 
 -- An assignment that satisfies a formula satisfies each clause that a passing log adds.
 abbrev pub AdditionsFollow : Type 0

@@ -4,8 +4,8 @@ use native.Mathlib.Decide.{ℕ_discrete}
 use Rattle.std.proofs.lemmas.List.Elements.{Contains-push, Contains-push_cases, Contains-append_left, Contains-get_or}
 use Rattle.std.proofs.lemmas.List.Quantifiers.{all_pairs_push}
 use Rattle.cqa_value.proofs.Words.{mem-nil}
-use Rattle.cqa_model.specs.declared.class.Class.{Class}
-use Rattle.cqa_model.specs.declared.class.Class.TheVariants.{FirstOrder, Polynomial, CoNp}
+use Rattle.complexity_class.specs.declared.class.Class.{Class}
+use Rattle.complexity_class.specs.declared.class.Class.TheVariants.{FirstOrder, Polynomial, CoNp}
 use Rattle.cqa_model.specs.declared.query.Query.{Query}
 use Rattle.cqa_model.specs.Variables.{whole}
 use Rattle.cqa_model.specs.Graph.{Attacks, IsWeak}

@@ -23,7 +23,7 @@ use Rattle.query_strategy.specs.Strategies.{HasNoPlan, NeedsSearch}
 use Rattle.refusals.specs.declared.refusal.Refusal.TheVariants.{WitnessLimit}
 use Rattle.reply_text.specs.declared.reply.Proof.{Proof}
 use Rattle.reply_text.specs.declared.reply.Reply.TheVariants.{ByBlock, ByRefutation, Rejected, Refused}
-use Rattle.weak_pairs.specs.Pairs.{IsPair}
+use Rattle.cqa_model.specs.Graph.{IsPair}
 use Rattle.session_state.specs.State.{State, IsState}
 use Rattle.reason_statements.specs.Explain.{MayTell}
 use Rattle.query_replies.specs.Kept.{kept_line}

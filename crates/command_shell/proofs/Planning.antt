@@ -34,7 +34,7 @@ use Rattle.query_replies.specs.Kept.{kept_line}
 use Rattle.query_statements.specs.Plan.{names_at, TellsPlan}
 use Rattle.reason_statements.specs.Prove.{Proves}
 use Rattle.query_statements.specs.Sql.{TellsSql}
-use Rattle.fo_rewrite.proofs.Distinct.{plan-atoms}
+use Rattle.cqa_model.proofs.PlanAtoms.{plan-atoms}
 
 pub plans_are_told : (q : Query) (names : List (List ℕ)) → (reply : Reply) × TellsPlan q names reply
 plans_are_told q names = elim (plan_or_cycle.either q) [

@@ -1,6 +1,6 @@
 -- What is answered to `range`: both ends, those of each group, or that there are too many witnesses.
 use Rattle.std.proofs.Common.{◌≡◌, inl, inr, ℕ, List, [], Option, Some, None, map, refl, sym, subst}
-use Rattle.cqa_model.specs.declared.aggregate.Goal.{Goal}
+use Rattle.aggregate_range.specs.declared.aggregate.Goal.{Goal}
 use Rattle.cqa_model.specs.declared.query.ColRef.{ColRef}
 use Rattle.cqa_model.specs.Database.{Table}
 use Rattle.existence_law.proofs.Naming.{witnesses_are_listed}

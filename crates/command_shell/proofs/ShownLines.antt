@@ -4,9 +4,9 @@ use Rattle.std.specs.List.{AllZip, count_by}
 use Rattle.cqa_value.proofs.Words.{mem-head, mem-tail}
 use Rattle.cqa_model.specs.Database.{Table, IsDatabase}
 use Rattle.cqa_model.specs.Blocks.{AreBlocks}
-use Rattle.row_cursor.specs.Blocks.{blocks_of}
-use Rattle.row_cursor.specs.Conflicts.{is_conflict}
-use Rattle.row_cursor.proofs.Parting.{blocks-are, side_by_side}
+use Rattle.row_blocks.specs.Blocks.{blocks_of}
+use Rattle.row_blocks.specs.Conflicts.{is_conflict}
+use Rattle.row_blocks.proofs.Parting.{blocks-are, side_by_side}
 use Rattle.reply_text.specs.declared.reply.ConflictLine.{ConflictLine}
 use Rattle.reply_text.specs.declared.reply.TableLine.{TableLine}
 use Rattle.session_state.specs.ShowTables.{IsTableLine}

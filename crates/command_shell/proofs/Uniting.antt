@@ -16,7 +16,7 @@ use Rattle.refusals.specs.declared.refusal.Refusal.TheVariants as refusals
 use Rattle.reply_text.specs.declared.reply.Proof.{Proof}
 use Rattle.reply_text.specs.declared.reply.Reply.{Reply}
 use Rattle.reply_text.specs.declared.reply.Reply.TheVariants.{Rows, Refused, Rejected, ByRefutation, ClassifiedParts}
-use Rattle.row_lists.proofs.Words.{zip-choose}
+use Rattle.cqa_model.proofs.Zips.{zip-choose}
 use Rattle.spj_syntax.specs.declared.tree.Select.{Select}
 use Rattle.union_ask.specs.Reasons.{IsReasonIn, IsUntoldIn}
 use Rattle.existence_law.specs.UnionAnswers.{UnionAnswersExist}

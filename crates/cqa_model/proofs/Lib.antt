@@ -34,3 +34,6 @@ pub mod OverOne
 pub mod Possible
 pub mod Databases
 pub mod InTable
+pub mod ClassNames
+pub mod PlanAtoms
+pub mod Zips

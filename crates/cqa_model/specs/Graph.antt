@@ -1,8 +1,8 @@
 -- The attack graph of a query: attacks, and cycles of attacks (Koutris and Wijsen, ACM TODS 2017).
-use Rattle.std.specs.Prelude.{ℕ, ◌≢◌, ◌⊎◌, List, [], ◌∷◌}
+use Rattle.std.specs.Prelude.{◌≡◌, ℕ, ◌<◌, ◌≢◌, ◌⊎◌, List, [], ◌∷◌, length}
 use Rattle.cqa_model.specs.declared.query.ColRef.{ColRef}
 use Rattle.cqa_model.specs.declared.query.Query.{Query}
-use Rattle.cqa_model.specs.Variables.{View, IsVar, IsKeyVar}
+use Rattle.cqa_model.specs.Variables.{View, IsVar, IsKeyVar, whole}
 use Rattle.cqa_model.specs.Closures.{InClosure, InPlus}
 
 -- two variables of one atom of the view
@@ -52,3 +52,8 @@ HasCycle q view = IsCyclic (Attacks q view)
 -- the attack graph has a strong cycle: at least one of its attacks is strong (Koutris and Wijsen, ACM TODS 2017)
 abbrev pub HasStrongCycle : Query → View → Type 0
 HasStrongCycle q view = IsStronglyCyclic (Attacks q view) (IsWeak q view)
+
+-- two atoms, each of which attacks the other weakly: no plan finds the certain rows, but polynomial time does (Koutris and Wijsen, ACM TODS 2017)
+pub record IsPair (q : Query) : Type 0 where
+  pub two : length q.atoms ≡ 2
+  pub weakly : (F G : ℕ) → F < 2 → G < 2 → F ≢ G → Attacks q (whole q) F G × IsWeak q (whole q) F G

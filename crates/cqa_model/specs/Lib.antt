@@ -16,4 +16,3 @@ pub mod Labels
 pub mod Naming
 pub mod Formula
 pub mod Laws
-pub mod Text

@@ -1,5 +1,5 @@
 -- Plans, and when a plan holds: the rewriting of a query over its unattacked atoms (Koutris and Wijsen, ACM TODS 2017).
-use Rattle.std.specs.Prelude.{◌≡◌, ℕ, ◌<◌, List, [], ◌∷◌, length, Contains, slice_index_or}
+use Rattle.std.specs.Prelude.{◌≡◌, ◌↔◌, ℕ, ◌<◌, List, [], ◌∷◌, length, Contains, slice_index_or}
 use Rattle.cqa_value.specs.declared.value.Value.{Value}
 use Rattle.cqa_model.specs.declared.query.Cond.{Cond}
 use Rattle.cqa_model.specs.declared.query.Cond.TheVariants.{Join, Test}
@@ -7,7 +7,8 @@ use Rattle.cqa_model.specs.declared.query.ColRef.{ColRef}
 use Rattle.cqa_model.specs.declared.query.Query.{Query}
 use Rattle.cqa_model.specs.Database.{Table, nothing, stored}
 use Rattle.cqa_model.specs.Repairs.{SharesKey}
-use Rattle.cqa_model.specs.Query.{atom_at, atom_key, rows_of, OpHolds}
+use Rattle.cqa_model.specs.Query.{atom_at, atom_key, rows_of, OpHolds, FitsDatabase}
+use Rattle.cqa_model.specs.Certain.{IsCertain}
 use Rattle.cqa_model.specs.Variables.{AreLinked, View, whole, after}
 use Rattle.cqa_model.specs.Graph.{Attacks}
 
@@ -71,3 +72,7 @@ IsPlan q view (F ∷ plan) =
 -- the plan of a query
 abbrev pub IsPlanOf : Query → List ℕ → Type 0
 IsPlanOf q plan = IsPlan q (whole q) plan
+
+-- over each database that the query fits, an order holds for a row of the answer's length exactly where the row is certain
+abbrev pub IsExact : Query → List ℕ → Type 0
+IsExact q plan = (db : List Table) (row : List Value) → FitsDatabase q db → length row ≡ length q.answer → HoldsOver db q row plan ↔ IsCertain db q row

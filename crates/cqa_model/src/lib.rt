@@ -1,18 +1,13 @@
 //! Schemas and queries, with the definitions of certain answers under primary keys and their laws.
 #![tactic(auto)]
 
-mod aggregate;
-mod class;
 pub mod laws;
 mod limits;
 mod naming;
 mod query;
 mod schema;
-mod text;
 mod variable_class;
 
-pub use aggregate::{End, Goal};
-pub use class::Class;
 pub use limits::{
     COLUMN_NUMBERS, LONGEST_INPUT, LONGEST_NAME, MOST_ANSWER_COLUMNS, MOST_ATOMS, MOST_COLUMNS,
     MOST_ROWS, MOST_SELECTS, MOST_TABLES,
@@ -20,5 +15,4 @@ pub use limits::{
 pub use naming::variables;
 pub use query::{Atom, ColRef, Cond, Op, Plan, Query, RowId};
 pub use schema::{Column, Schema};
-pub use text::schema_text;
 pub use variable_class::Variables;

@@ -5,7 +5,7 @@ use Rattle.cqa_value.specs.declared.value.Value.{Value}
 use Rattle.cqa_value.specs.Literals.{row_bytes}
 use Rattle.cqa_model.specs.declared.schema.Schema.{Schema}
 use Rattle.cqa_model.specs.Database.{Table}
-use Rattle.cqa_model.specs.Text.{schema_bytes}
+use Rattle.schema_text.specs.Text.{schema_bytes}
 use Rattle.csv_rows.specs.Ends.{plain_rows, other_rows}
 use Rattle.csv_rows.specs.Texts.{rows_bytes}
 

@@ -4,14 +4,15 @@ ghost use Rattle.std.specs.Prelude.{◌≡◌, ◌++◌, IfOk, OnOk, not};
 ghost use Rattle.std.specs.List.{flat_map, list_any};
 ghost use Rattle.csv_rows.specs.Ends.{other_rows, plain_rows, row_has_end};
 ghost use Rattle.csv_rows.specs.Texts.{rows_bytes};
-ghost use Rattle.cqa_model.specs.Text.{schema_bytes};
+ghost use Rattle.schema_text.specs.Text.{schema_bytes};
 ghost use Rattle.csv_rows.specs.Dumps.{copy_text, create_words, insert_text, dump_of_table};
 
 use crate::ends::row_has_end;
 use crate::writing::append_block;
-use cqa_model::{Schema, schema_text};
+use cqa_model::Schema;
 use cqa_value::{Name, NoMemory, Row, row_text};
 use row_pieces::Rows;
+use schema_text::schema_text;
 use std::alloc::Global;
 use std::mem;
 

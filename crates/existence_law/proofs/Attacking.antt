@@ -9,7 +9,7 @@ use Rattle.cqa_model.specs.declared.query.Query.{Query}
 use Rattle.cqa_model.specs.Query.{atom_at, atom_key}
 use Rattle.cqa_model.specs.Variables.{AreLinked, IsFree, IsVar, IsKeyVar, whole}
 use Rattle.cqa_model.specs.Closures.{HasVariable, IsDerived, IsDerivation, InClosure}
-use Rattle.cqa_model.specs.Graph.{Attacks, IsWeak, HasCycle, HasStrongCycle}
+use Rattle.cqa_model.specs.Graph.{Attacks, IsWeak, HasCycle, HasStrongCycle, IsPair}
 use Rattle.cqa_model.proofs.Classic.{dec_three, dec_or, dec_if, dec_below, dec_each, dec_some}
 use Rattle.cqa_model.proofs.Values.{dec_by, dec_not}
 use Rattle.cqa_model.proofs.Decisions.{dec_linked}
@@ -19,7 +19,6 @@ use Rattle.cqa_model.proofs.Interface.{closure-within, dec_free, dec_var}
 use Rattle.cqa_model.proofs.AttackDecisions.{IsFull, filled, dec_attacks}
 use Rattle.cqa_model.proofs.Cycles.{plan_or_cycle}
 use Rattle.cqa_model.proofs.Elimination.{plan-eliminates}
-use Rattle.weak_pairs.specs.Pairs.{IsPair}
 use Rattle.existence_law.specs.Graphs.{AttacksAreDecided, MethodsAreDecided}
 use Rattle.existence_law.proofs.Reaching.{dec_strongly_cyclic}
 

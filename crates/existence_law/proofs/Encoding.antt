@@ -19,8 +19,7 @@ use Rattle.cnf_form.specs.declared.formula.Lit.{Lit}
 use Rattle.cnf_form.specs.declared.formula.Clause.{Clause}
 use Rattle.cnf_form.specs.declared.log.Step.{Step}
 use Rattle.cnf_form.specs.Literals.{literals, SatisfiesAll}
-use Rattle.cnf_form.specs.Logs.{Refutes}
-use Rattle.cdcl.specs.Outcomes.{AreConsecutive}
+use Rattle.cnf_form.specs.Logs.{Refutes, AreConsecutive}
 use Rattle.join_access.proofs.Sorted.{one_sorted}
 use Rattle.row_lists.specs.declared.formula.Encoded.{Encoded}
 use Rattle.row_lists.specs.Clauses.{Variable, variable_cmp, AreAllLists, Formula, clauses}

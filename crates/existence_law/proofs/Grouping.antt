@@ -7,7 +7,7 @@ use Rattle.std.proofs.lemmas.List.Elements.{All-from_recursion}
 use Rattle.cqa_value.specs.declared.value.Value.{Value}
 use Rattle.cqa_value.specs.Values.{value_cmp, value_cmp_total, value_ties, value_decides}
 use Rattle.cqa_value.proofs.Words.{recursion_from_members, Contains-map, Contains-from_map, Contains-filter}
-use Rattle.cqa_model.specs.declared.aggregate.Goal.{Goal}
+use Rattle.aggregate_range.specs.declared.aggregate.Goal.{Goal}
 use Rattle.cqa_model.specs.Database.{Table}
 use Rattle.existence_law.proofs.Ranging.{ranges_exist}
 use Rattle.join_witness.proofs.Sorting.{sorted, in_order, members}

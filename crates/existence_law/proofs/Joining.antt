@@ -5,10 +5,10 @@ use Rattle.std.specs.Ordering.{nat_cmp}
 use native.Mathlib.Decide.{ℕ_discrete, dec_lt}
 use Rattle.cqa_value.specs.declared.value.Value.{Value}
 use Rattle.cqa_value.proofs.Words.{is_yes, yes_of, of_yes, dec_both, mem-head, mem-nil, Contains-map, Contains-from_map, Contains-filter}
-use Rattle.cqa_model.specs.declared.aggregate.Goal.{Goal}
-use Rattle.cqa_model.specs.declared.aggregate.Goal.TheVariants.{Count, Sum, Min, Max}
-use Rattle.cqa_model.specs.declared.aggregate.End.{End}
-use Rattle.cqa_model.specs.declared.aggregate.End.TheVariants.{Empty, Number, Held}
+use Rattle.aggregate_range.specs.declared.aggregate.Goal.{Goal}
+use Rattle.aggregate_range.specs.declared.aggregate.Goal.TheVariants.{Count, Sum, Min, Max}
+use Rattle.aggregate_range.specs.declared.aggregate.End.{End}
+use Rattle.aggregate_range.specs.declared.aggregate.End.TheVariants.{Empty, Number, Held}
 use Rattle.cqa_model.specs.declared.query.Query.{Query}
 use Rattle.cqa_model.specs.declared.query.RowId.{RowId}
 use Rattle.cqa_model.specs.Database.{Table, stored, keys_of}

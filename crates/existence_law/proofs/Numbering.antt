@@ -20,7 +20,8 @@ use Rattle.row_lists.specs.Formulas.{table_at, name_in, IsRelevantTo, AreVariabl
 use Rattle.row_lists.specs.Spans.{at}
 use Rattle.row_lists.proofs.Numbers.{passing, passing-has, passing-holds, passing-rises}
 use Rattle.row_lists.proofs.Rows.{variable_total, dec_number, number_below}
-use Rattle.row_lists.proofs.Words.{name_discrete, zip-choose}
+use Rattle.row_lists.proofs.Words.{name_discrete}
+use Rattle.cqa_model.proofs.Zips.{zip-choose}
 use Rattle.table_blocks.specs.Tables.{rows_at, key_at}
 
 dec_of_block : (db : List Table) (m n : RowId) → Dec (IsOfBlock db m n)

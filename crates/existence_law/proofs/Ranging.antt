@@ -6,10 +6,10 @@ use Rattle.std.proofs.lemmas.Int.{ints}
 use Rattle.cqa_value.specs.declared.value.Value.{Value}
 use Rattle.cqa_value.specs.Values.{value_cmp, value_cmp_total}
 use Rattle.cqa_value.proofs.Words.{mem-head, mem-nil, Contains-filter, is_yes, yes_of, of_yes}
-use Rattle.cqa_model.specs.declared.aggregate.Goal.{Goal}
-use Rattle.cqa_model.specs.declared.aggregate.Goal.TheVariants.{Count, Sum, Min, Max}
-use Rattle.cqa_model.specs.declared.aggregate.End.{End}
-use Rattle.cqa_model.specs.declared.aggregate.End.TheVariants.{Empty, Number, Held}
+use Rattle.aggregate_range.specs.declared.aggregate.Goal.{Goal}
+use Rattle.aggregate_range.specs.declared.aggregate.Goal.TheVariants.{Count, Sum, Min, Max}
+use Rattle.aggregate_range.specs.declared.aggregate.End.{End}
+use Rattle.aggregate_range.specs.declared.aggregate.End.TheVariants.{Empty, Number, Held}
 use Rattle.cqa_model.specs.Database.{Table}
 use Rattle.cqa_model.specs.Repairs.{IsTableRepair}
 use Rattle.cqa_model.proofs.EachRepair.{sublists, sublists-all, dec_table}

@@ -12,9 +12,8 @@ use Rattle.cnf_form.specs.declared.formula.Lit.{Lit}
 use Rattle.cnf_form.specs.declared.log.Step.{Step}
 use Rattle.cnf_form.specs.declared.log.Step.TheVariants.{Add, Delete}
 use Rattle.cnf_form.specs.Literals.{literals, positive, negative, negated, opposite, AllDenied, IsUnit, MakesTrue, Satisfies, SatisfiesAll}
-use Rattle.cnf_form.specs.Logs.{Live, numbered, with_clause, AdditionPasses, HintsPass, StepsPass, added}
+use Rattle.cnf_form.specs.Logs.{Live, numbered, with_clause, AdditionPasses, HintsPass, StepsPass, added, AreConsecutive}
 use Rattle.cnf_form.proofs.Lits.{opposite-opposite, opposites-twice, equal_or_not}
-use Rattle.cdcl.specs.Outcomes.{AreConsecutive}
 use Rattle.existence_law.proofs.NewClauses.{AreLive}
 use Rattle.existence_law.proofs.Spending.{all_live}
 use Rattle.existence_law.specs.Refutations.{RefutationsExist}

@@ -13,9 +13,9 @@ use Rattle.cqa_model.specs.Repairs.{IsSublist, IsRepair}
 use Rattle.cqa_model.specs.Query.{atom_at, FitsDatabase}
 use Rattle.cqa_model.proofs.Databases.{certain_or_rejected}
 use Rattle.join_access.proofs.Extending.{sorted-nil}
-use Rattle.repair_back.specs.Results.{AreKept, AreStored, is_contested_in, contested_of}
+use Rattle.repair_back.specs.Results.{AreKept, is_contested_in, contested_of}
+use Rattle.table_blocks.specs.Tables.{AreStored, rows_in, names_in}
 use Rattle.existence_law.specs.Rejections.{KeptRowsHaveNames, RejectionsExist}
-use Rattle.table_blocks.specs.Tables.{rows_in, names_in}
 
 -- ---- the places of some rows of a list, where the first of the list has a number
 

@@ -9,10 +9,9 @@ use Rattle.cnf_form.specs.declared.formula.Lit.{Lit}
 use Rattle.cnf_form.specs.declared.log.Step.{Step}
 use Rattle.cnf_form.specs.declared.log.Step.TheVariants.{Add}
 use Rattle.cnf_form.specs.Literals.{literals, AreVars, SatisfiesAll}
-use Rattle.cnf_form.specs.Logs.{Live, numbered, with_clause, StepsPass, added}
+use Rattle.cnf_form.specs.Logs.{Live, numbered, with_clause, StepsPass, added, AreConsecutive}
 use Rattle.cnf_form.specs.Propagation.{ReachesEmpty, StaysOpen}
 use Rattle.cnf_form.specs.Spent.{AreNew, OnlyAdds}
-use Rattle.cdcl.specs.Outcomes.{AreConsecutive}
 use Rattle.existence_law.specs.Budgets.{BudgetsDecide}
 use Rattle.existence_law.proofs.Closing.{open_count, IsUnder, HasConflict, IsClosed, Reached, closure, never_empty, stays_open}
 use Rattle.existence_law.proofs.NewClauses.{AreLive, Blocked, hints_of, a_variable, new_clause, clause, clause_fits, clause_is_new, clause_passes}

@@ -29,7 +29,7 @@ use Rattle.join_witness.proofs.Listing.{all_names}
 use Rattle.join_witness.proofs.Sorting.{decided_list, first_with}
 use Rattle.part_search.specs.Parts.{AllFit, AreNamesIn, HasTooManyIn}
 use Rattle.part_search.proofs.Parts.{not-over-lists}
-use Rattle.row_lists.proofs.Words.{zip-choose}
+use Rattle.cqa_model.proofs.Zips.{zip-choose}
 use Rattle.union_ask.specs.Laws.{PossibleIsCandidateIn}
 use Rattle.existence_law.specs.UnionAnswers.{UnionAnswersExist, UnionFirstOverExists, UnionRowsAreDecided}
 

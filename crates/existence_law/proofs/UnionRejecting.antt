@@ -7,8 +7,8 @@ use Rattle.cqa_model.specs.declared.query.RowId.{RowId}
 use Rattle.cqa_model.specs.Database.{Table, stored}
 use Rattle.cqa_model.specs.Repairs.{IsRepair}
 use Rattle.existence_law.proofs.Rejecting.{places, rise, within, rows, size}
-use Rattle.repair_back.specs.Results.{AreKeptOver, AreStored, is_contested_in, contested_of}
-use Rattle.table_blocks.specs.Tables.{names_in}
+use Rattle.repair_back.specs.Results.{AreKeptOver, is_contested_in, contested_of}
+use Rattle.table_blocks.specs.Tables.{AreStored, names_in}
 use Rattle.existence_law.specs.UnionReasons.{UnionRejectionsExist}
 use Rattle.existence_law.proofs.UnionAnswering.{certain_or_rejected_in}
 use Rattle.existence_law.proofs.UnionEncoding.{tables_in}

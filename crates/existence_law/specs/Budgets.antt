@@ -3,9 +3,8 @@ use Rattle.std.specs.Prelude.{◌⊎◌, ◌≤◌, ◌+◌, ℕ, Bool, List, le
 use Rattle.cnf_form.specs.declared.formula.Cnf.{Cnf}
 use Rattle.cnf_form.specs.declared.log.Step.{Step}
 use Rattle.cnf_form.specs.Literals.{literals, AreVarsInRange, SatisfiesAll}
-use Rattle.cnf_form.specs.Logs.{Refutes}
+use Rattle.cnf_form.specs.Logs.{Refutes, AreConsecutive}
 use Rattle.cnf_form.specs.Spent.{IsSpentLog}
-use Rattle.cdcl.specs.Outcomes.{AreConsecutive}
 
 -- The law: a formula that no assignment satisfies has a refutation of no more additions than a budget and one, under the ids that
 -- follow those of its clauses; or a spent log for the budget.

@@ -7,8 +7,7 @@ use Rattle.cqa_model.specs.Database.{Table}
 use Rattle.cqa_model.specs.Query.{FitsDatabase}
 use Rattle.cqa_model.specs.Certain.{IsCertain}
 use Rattle.cnf_form.specs.declared.log.Step.{Step}
-use Rattle.cnf_form.specs.Logs.{Refutes}
-use Rattle.cdcl.specs.Outcomes.{AreConsecutive}
+use Rattle.cnf_form.specs.Logs.{Refutes, AreConsecutive}
 use Rattle.join_access.specs.Listing.{AreAllNames, HasTooMany}
 use Rattle.row_lists.specs.declared.formula.Encoded.{Encoded}
 use Rattle.row_lists.specs.Clauses.{Formula}

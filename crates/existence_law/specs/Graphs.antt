@@ -2,8 +2,7 @@
 use Rattle.std.specs.Prelude.{ℕ, ◌<◌, ◌⊎◌, length}
 use Rattle.cqa_model.specs.declared.query.Query.{Query}
 use Rattle.cqa_model.specs.Variables.{whole}
-use Rattle.cqa_model.specs.Graph.{Attacks, IsWeak, HasStrongCycle}
-use Rattle.weak_pairs.specs.Pairs.{IsPair}
+use Rattle.cqa_model.specs.Graph.{Attacks, IsWeak, HasStrongCycle, IsPair}
 use Rattle.query_strategy.specs.Strategies.{NeedsSearch}
 
 -- Which atoms attack which, which atom attacks weakly, and whether a cycle has a strong attack.

@@ -1,6 +1,6 @@
 -- Each aggregate of a table has its range.
 use Rattle.std.specs.Prelude.{ℕ, List}
-use Rattle.cqa_model.specs.declared.aggregate.Goal.{Goal}
+use Rattle.aggregate_range.specs.declared.aggregate.Goal.{Goal}
 use Rattle.cqa_model.specs.Database.{Table}
 use Rattle.table_blocks.specs.declared.test.ColumnTest.{ColumnTest}
 use Rattle.range_ask.specs.declared.range.Range.{Range}

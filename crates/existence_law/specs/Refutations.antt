@@ -3,8 +3,7 @@ use Rattle.std.specs.Prelude.{ℕ, Bool, List, length}
 use Rattle.cnf_form.specs.declared.formula.Cnf.{Cnf}
 use Rattle.cnf_form.specs.declared.log.Step.{Step}
 use Rattle.cnf_form.specs.Literals.{literals, SatisfiesAll}
-use Rattle.cnf_form.specs.Logs.{Refutes}
-use Rattle.cdcl.specs.Outcomes.{AreConsecutive}
+use Rattle.cnf_form.specs.Logs.{Refutes, AreConsecutive}
 
 -- Steps that are additions alone, under the ids that follow those of the clauses, refute a formula that no assignment satisfies.
 abbrev pub RefutationsExist : Type 0

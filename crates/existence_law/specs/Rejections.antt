@@ -7,7 +7,8 @@ use Rattle.cqa_model.specs.Database.{Table}
 use Rattle.cqa_model.specs.Repairs.{IsRepair}
 use Rattle.cqa_model.specs.Query.{FitsDatabase}
 use Rattle.cqa_model.specs.Certain.{IsCertain}
-use Rattle.repair_back.specs.Results.{AreKept, AreStored}
+use Rattle.repair_back.specs.Results.{AreKept}
+use Rattle.table_blocks.specs.Tables.{AreStored}
 use Rattle.repair_back.specs.Rejected.{AreRejectingRows}
 
 -- The rows that a repair keeps of a query's tables have names.

@@ -8,7 +8,7 @@ use Rattle.cqa_model.specs.Unions.{IsCertainIn}
 use Rattle.part_search.specs.Parts.{AllFit}
 use Rattle.repair_back.specs.declared.reason.Reason.{Reason}
 use Rattle.repair_back.specs.declared.reason.Untold.{Untold}
-use Rattle.repair_back.specs.Results.{AreStored}
+use Rattle.table_blocks.specs.Tables.{AreStored}
 use Rattle.union_ask.specs.Reasons.{IsReasonIn, IsUntoldIn}
 use Rattle.union_ask.specs.Repairs.{AreRejectingRowsIn}
 

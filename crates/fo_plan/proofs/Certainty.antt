@@ -9,9 +9,8 @@ use Rattle.cqa_model.specs.declared.query.Query.{Query}
 use Rattle.cqa_model.specs.Database.{Table}
 use Rattle.cqa_model.specs.Query.{value, FitsDatabase}
 use Rattle.cqa_model.specs.Certain.{IsCandidate, IsCertainAnswer}
-use Rattle.cqa_model.specs.Plan.{HoldsOver}
+use Rattle.cqa_model.specs.Plan.{HoldsOver, IsExact}
 use Rattle.cqa_model.proofs.Databases.{possible_is_candidate}
-use Rattle.fo_rewrite.specs.Planning.{IsExact}
 
 -- a candidate has the answer's length
 pub candidate-length : (db : List Table) (q : Query) (row : List Value) → IsCandidate db q row → length row ≡ length q.answer

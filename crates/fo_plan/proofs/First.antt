@@ -24,9 +24,9 @@ use Rattle.row_order.proofs.BlockOrder.{block_total, block_exact, block_alike}
 use Rattle.table_blocks.proofs.Merging.{across}
 use Rattle.table_blocks.proofs.Spanning.{sorted-part}
 use Rattle.join_access.proofs.Sorted.{not_less, not_both, one_sorted}
-use Rattle.row_cursor.specs.Blocks.{blocks_of}
-use Rattle.row_cursor.proofs.BlockLists.{row_in, block_of, whole-block}
-use Rattle.row_cursor.proofs.Parting.{blocks-are, side_by_side}
+use Rattle.row_blocks.specs.Blocks.{blocks_of}
+use Rattle.row_blocks.proofs.BlockLists.{row_in, block_of, whole-block}
+use Rattle.row_blocks.proofs.Parting.{blocks-are, side_by_side}
 use Rattle.plan_rows.specs.Links.{LeadsTo}
 use Rattle.plan_rows.specs.Over.{query_of, stored_rows, rows_before}
 use Rattle.plan_rows.specs.declared.steps.Step.{Step}

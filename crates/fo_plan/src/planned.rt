@@ -2,9 +2,8 @@
 
 ghost use Rattle.std.specs.Prelude.{IfOk};
 ghost use Rattle.cqa_model.specs.Certain.{IsCertainAnswer};
-ghost use Rattle.cqa_model.specs.Plan.{IsEliminationOf};
+ghost use Rattle.cqa_model.specs.Plan.{IsEliminationOf, IsExact};
 ghost use Rattle.join_access.specs.Spots.{ArePaths};
-ghost use Rattle.fo_rewrite.specs.Planning.{IsExact};
 
 use crate::certain::answers;
 use crate::paths::paths_of;

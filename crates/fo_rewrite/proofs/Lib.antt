@@ -1,5 +1,4 @@
 pub mod Sameness
-pub mod Distinct
 pub mod PlanSteps
 mod OneAtom
 mod Columns

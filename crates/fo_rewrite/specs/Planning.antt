@@ -1,17 +1,9 @@
 -- Taking the unattacked atoms of a query one after the other (Koutris and Wijsen, ACM TODS 2017).
-use Rattle.std.specs.Prelude.{◌≡◌, ℕ, ◌<◌, ◌↔◌, List, length}
-use Rattle.cqa_value.specs.declared.value.Value.{Value}
+use Rattle.std.specs.Prelude.{ℕ, ◌<◌}
 use Rattle.cqa_model.specs.declared.query.Query.{Query}
-use Rattle.cqa_model.specs.Database.{Table}
-use Rattle.cqa_model.specs.Query.{FitsDatabase}
-use Rattle.cqa_model.specs.Certain.{IsCertain}
 use Rattle.cqa_model.specs.Variables.{View}
 use Rattle.cqa_model.specs.Graph.{Attacks}
-use Rattle.cqa_model.specs.Plan.{HoldsOver, IsUnattacked}
-
--- over each database that the query fits, an order holds for a row of the answer's length exactly where the row is certain
-abbrev pub IsExact : Query → List ℕ → Type 0
-IsExact q plan = (db : List Table) (row : List Value) → FitsDatabase q db → length row ≡ length q.answer → HoldsOver db q row plan ↔ IsCertain db q row
+use Rattle.cqa_model.specs.Plan.{IsUnattacked}
 
 -- some atom attacks G
 abbrev pub IsAttacked : Query → View → ℕ → Type 0

@@ -3,9 +3,8 @@
 ghost use Rattle.std.specs.Prelude.{◌↔◌, ◌<◌, All, IfOk, IfSome, IsNone, length};
 ghost use Rattle.cqa_model.specs.Variables.{whole};
 ghost use Rattle.cqa_model.specs.Graph.{HasCycle};
-ghost use Rattle.cqa_model.specs.Plan.{IsEliminationOf};
+ghost use Rattle.cqa_model.specs.Plan.{IsEliminationOf, IsExact};
 ghost use Rattle.key_closure.specs.Members.{AreSame, seen};
-ghost use Rattle.fo_rewrite.specs.Planning.{IsExact};
 ghost use Rattle.fo_rewrite.specs.Starting.{StartsWhole};
 
 use crate::attacked::{attacked_atoms, first_outside};

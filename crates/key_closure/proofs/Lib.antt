@@ -1,4 +1,3 @@
 pub mod Members
 pub mod Growing
 pub mod Sameness
-pub mod Naming

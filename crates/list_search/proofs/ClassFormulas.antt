@@ -19,7 +19,7 @@ use Rattle.table_blocks.specs.Tables.{rows_at, key_at}
 use Rattle.row_lists.specs.declared.span.Span.{Span}
 use Rattle.row_lists.specs.Clauses.{Variable, HasNumber, Rises, positive, negative, variable_cmp}
 use Rattle.row_lists.specs.Spans.{at, HasSpan, IsInSpan, IsWholeBlock, variables_of_spans}
-use Rattle.row_lists.specs.Lists.{named, IsIn, IsStored, AreStored, IsOfBlock, IsForced}
+use Rattle.row_lists.specs.Lists.{named, IsIn, IsStored, AreStoredLists, IsOfBlock, IsForced}
 use Rattle.row_lists.specs.Formulas.{table_at, name_in, IsFrame, AreWithin}
 use Rattle.row_lists.specs.Encodings.{AreListSpansTo}
 use Rattle.row_lists.specs.Classes.{AreClosed, AreClasses, IsCovered, SatisfiesClasses}
@@ -54,7 +54,7 @@ pub some_false : (v : ℕ → Bool) (numbers : List ℕ) → Satisfies v (map ne
 some_false v numbers (l, ml, e) = let p = Contains-from_map negative numbers l ml in (p.0, p.1, subst (λ (z : Lit). v z.var ≡ z.positive) (sym p.2) e)
 
 module _ (db : List Table) (frame : List ℕ) (lists : List (List RowId)) (columns : List (List ℕ)) (of : ℕ → List ℕ) (same : (s : ℕ) → s < length frame → of (table_at frame s) ≡ columns_at columns s)
-    (d : IsDatabase db) (f : IsFrame db frame) (st : AreStored db lists) (within : AreWithin frame lists) (closed : AreClosed db of lists) (m : ℕ) (spans : List Span) (h : AreListSpansTo db frame lists (length frame) m spans)
+    (d : IsDatabase db) (f : IsFrame db frame) (st : AreStoredLists db lists) (within : AreWithin frame lists) (closed : AreClosed db of lists) (m : ℕ) (spans : List Span) (h : AreListSpansTo db frame lists (length frame) m spans)
     (numbered : List Span) (rows : AreNumberedTo frame lists (length frame) numbered) where
   abbrev vars : List Variable
   vars = variables_of_spans numbered

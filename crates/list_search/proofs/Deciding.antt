@@ -8,16 +8,16 @@ use Rattle.cnf_form.specs.declared.formula.Lit.{Lit}
 use Rattle.cnf_form.specs.declared.formula.Cnf.{Cnf}
 use Rattle.cnf_form.specs.declared.log.Log.{Log}
 use Rattle.cnf_form.specs.Literals.{AreVarsInRange, SatisfiesAll}
-use Rattle.cnf_form.specs.Logs.{Refutes}
+use Rattle.cnf_form.specs.Logs.{Refutes, AreConsecutive}
 use Rattle.cnf_form.specs.Spent.{IsSpentLog}
 use Rattle.cnf_form.proofs.Sound.{refutation_sound}
 use Rattle.cdcl.specs.declared.outcome.Outcome.{Outcome}
 use Rattle.cdcl.specs.declared.outcome.Outcome.TheVariants.{Sat, Unsat, Spent}
-use Rattle.cdcl.specs.Outcomes.{AreConsecutive, IsModel, IsOnce, OutcomeIs, assignment}
+use Rattle.cdcl.specs.Outcomes.{IsModel, IsOnce, OutcomeIs, assignment}
 use Rattle.row_lists.specs.declared.formula.Encoded.{Encoded}
 use Rattle.row_lists.specs.Clauses.{Rises, clauses}
 use Rattle.row_lists.specs.Spans.{at}
-use Rattle.row_lists.specs.Lists.{AreStored}
+use Rattle.row_lists.specs.Lists.{AreStoredLists}
 use Rattle.row_lists.specs.Formulas.{IsFrame, AreWithin}
 use Rattle.row_lists.specs.Encodings.{IsListEncoded}
 use Rattle.row_lists.proofs.Formulas.{list_clauses_rise, lists_decide}
@@ -40,7 +40,7 @@ module _ (db : List Table) (frame : List ℕ) (lists : List (List RowId)) (e : E
   pub once : IsOnce e.cnf
   once = rising-once e.cnf (clauses h.formula) (length h.formula.variables) h.are h.vars rise
 
-  module _ (d : IsDatabase db) (f : IsFrame db frame) (within : AreWithin frame lists) (st : AreStored db lists) where
+  module _ (d : IsDatabase db) (f : IsFrame db frame) (within : AreWithin frame lists) (st : AreStoredLists db lists) where
     pub says_of : (budget : ℕ) (o : Outcome) → OutcomeIs e.cnf budget o → SaysOf db lists o
     says_of budget (Sat values) m = λ forced. (lists_decide db frame lists h.formula d f within st h.is).0 forced (assignment values) (subst (SatisfiesAll (assignment values)) h.are m.1)
     says_of budget (Unsat log) m = (lists_decide db frame lists h.formula d f within st h.is).1 (λ v sat. refutation_sound e.cnf log.steps m.0 v (subst (SatisfiesAll v) (sym h.are) sat))

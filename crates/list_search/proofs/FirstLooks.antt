@@ -12,7 +12,7 @@ use Rattle.flat_formula.specs.declared.guess.Found.TheVariants.{Satisfiable, Uns
 use Rattle.flat_formula.specs.Findings.{FoundIs}
 use Rattle.row_lists.specs.declared.span.Span.{Span}
 use Rattle.row_lists.specs.Clauses.{positive, negative}
-use Rattle.row_lists.specs.Lists.{AreStored, IsForced}
+use Rattle.row_lists.specs.Lists.{AreStoredLists, IsForced}
 use Rattle.row_lists.specs.Formulas.{IsFrame, AreWithin, AreNumbersOf, IsFormulaOf}
 use Rattle.row_lists.specs.Spans.{AreBasedTo, numbers_in, variables_of_spans, formula_of_spans}
 use Rattle.row_lists.specs.Encodings.{AreListSpansTo}
@@ -55,7 +55,7 @@ all_below frame spans m lists cs based h c mc l ml = elim (Contains-append_cases
 -- ---- the lists
 
 module _ (db : List Table) (frame : List ℕ) (lists : List (List RowId)) (m : ℕ) (spans : List Span) (h : AreListSpansTo db frame lists (length frame) m spans)
-    (d : IsDatabase db) (f : IsFrame db frame) (within : AreWithin frame lists) (st : AreStored db lists) (cs : List (List Lit)) (c : AreClausesOf frame spans lists cs) where
+    (d : IsDatabase db) (f : IsFrame db frame) (within : AreWithin frame lists) (st : AreStoredLists db lists) (cs : List (List Lit)) (c : AreClausesOf frame spans lists cs) where
   of_lists : IsFormulaOf db frame lists (formula_of_spans spans c.numbers)
   of_lists = record { variables = are_list_variables db frame lists m spans h f; blocks = are_list_blocks db frame lists m spans h f; witnesses = c.numbered }
 

@@ -6,14 +6,14 @@ use Rattle.cqa_model.specs.Database.{Table, IsDatabase}
 use Rattle.join_access.specs.Listing.{names_of}
 use Rattle.row_lists.proofs.Framing.{few_below}
 use Rattle.row_lists.specs.declared.lists_over.RowLists.{RowLists}
-use Rattle.row_lists.specs.Lists.{name, IsIn, AreStored}
+use Rattle.row_lists.specs.Lists.{name, IsIn, AreStoredLists}
 use Rattle.row_lists.specs.Formulas.{IsFrame, AreWithin}
 use Rattle.row_lists.specs.Frames.{AreTablePlaces}
 use Rattle.row_lists.proofs.Framing.{is_frame, within_frame}
 use Rattle.row_lists.proofs.Reading.{rows-few}
 
 -- a row of a list has a place below the most rows
-pub listed_few : (db : List Table) (lists : List (List RowId)) → IsDatabase db → AreStored db lists → (t p : ℕ) → IsIn lists (name t p) → p < MOST_ROWS
+pub listed_few : (db : List Table) (lists : List (List RowId)) → IsDatabase db → AreStoredLists db lists → (t p : ℕ) → IsIn lists (name t p) → p < MOST_ROWS
 listed_few db lists d st t p i =
     let l = (st (name t p) i).1 in
     let r = rows-few db t in
@@ -21,7 +21,7 @@ listed_few db lists d st t p i =
     omega (arith, l, r, f)
 
 -- so a column is no longer
-pub column_few : (db : List Table) (lists : List (List RowId)) → IsDatabase db → AreStored db lists → (t : ℕ) (ps : List ℕ) → AreTablePlaces lists t ps → length ps ≤ MOST_ROWS
+pub column_few : (db : List Table) (lists : List (List RowId)) → IsDatabase db → AreStoredLists db lists → (t : ℕ) (ps : List ℕ) → AreTablePlaces lists t ps → length ps ≤ MOST_ROWS
 column_few db lists d st t ps c = few_below ps MOST_ROWS c.in_order (λ p m. listed_few db lists d st t p ((c.exactly p).0 m))
 
 module _ (l : RowLists) where

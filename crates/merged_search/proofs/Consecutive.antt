@@ -3,7 +3,7 @@ use Rattle.std.proofs.Common.{◌≡◌, ◌<◌, ◌+◌, ℕ, zero, suc, le_of
 use Rattle.cnf_form.specs.declared.log.Step.{Step}
 use Rattle.cnf_form.specs.declared.log.Step.TheVariants.{Add, Delete}
 use Rattle.std.proofs.lemmas.List.{length-take-le, take_more}
-use Rattle.cdcl.specs.Outcomes.{AreConsecutive}
+use Rattle.cnf_form.specs.Logs.{AreConsecutive}
 
 push : (n m : ℕ) (steps : List Step) (step : Step) → m ≡ n + length steps → AreConsecutive n steps → AreConsecutive m (step ∷ []) → AreConsecutive n (steps ++ step ∷ [])
 push n m [] step e all next = subst (λ (k : ℕ). AreConsecutive k (step ∷ [])) (omega (arith, e)) next

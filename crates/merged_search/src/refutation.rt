@@ -1,8 +1,7 @@
 //! Whether a log refutes a formula by additions under consecutive ids, and by no more than a budget allows.
 
 ghost use Rattle.std.specs.Prelude.{◌≡◌, ◌∷◌, ◌+◌, ◌≤◌, ◌↔◌, [], IfOk, IfSome, None, length, true};
-ghost use Rattle.cnf_form.specs.Logs.{Refutes};
-ghost use Rattle.cdcl.specs.Outcomes.{AreConsecutive};
+ghost use Rattle.cnf_form.specs.Logs.{Refutes, AreConsecutive};
 
 use cnf_form::{Cnf, Log, Step};
 use cqa_value::{Fail, NoMemory};

@@ -3,9 +3,9 @@
 ghost use Rattle.std.specs.Prelude.{◌≡◌, ◌<◌, ◌≤◌, ◌+◌, ◌^◌, Bool, List, length, IfOk, IfSome, true};
 ghost use Rattle.cnf_form.specs.declared.log.Log.{Log};
 ghost use Rattle.cnf_form.specs.Literals.{AreVarsInRange};
-ghost use Rattle.cnf_form.specs.Logs.{Refutes};
+ghost use Rattle.cnf_form.specs.Logs.{Refutes, AreConsecutive};
 ghost use Rattle.cnf_form.specs.Spent.{IsSpentLog};
-ghost use Rattle.cdcl.specs.Outcomes.{AreConsecutive, IsModel, IsOnce, OutcomeIs};
+ghost use Rattle.cdcl.specs.Outcomes.{IsModel, IsOnce, OutcomeIs};
 ghost use Rattle.merged_search.specs.Answers.{IsDecisive};
 
 use crate::guess::guess;

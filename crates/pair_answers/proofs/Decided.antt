@@ -15,7 +15,8 @@ use Rattle.cqa_model.proofs.Classic.{mem-head, mem-tail, mem-nil, mem-cases}
 use Rattle.cqa_model.proofs.Reification.{placed}
 use Rattle.weak_pairs.specs.declared.decide.Decision.{Decision}
 use Rattle.weak_pairs.specs.declared.decide.Decision.TheVariants.{Certain, Rejected}
-use Rattle.weak_pairs.specs.Pairs.{IsPair, IsStoredRow}
+use Rattle.weak_pairs.specs.Pairs.{IsStoredRow}
+use Rattle.cqa_model.specs.Graph.{IsPair}
 use Rattle.weak_pairs.specs.Peeling.{IsBlockNumber, In, row_of}
 use Rattle.weak_pairs.specs.Numbering.{AreNumbered}
 use Rattle.weak_pairs.specs.Outcomes.{AreStarts, AreSided, IsSplit, IsPairDecision, TellsCertainty, IsTaken, PairDecided}

@@ -6,12 +6,11 @@ use native.Mathlib.Decide.{dec_lt}
 use Rattle.cqa_model.specs.declared.query.ColRef.{ColRef}
 use Rattle.cqa_model.specs.declared.query.Query.{Query}
 use Rattle.cqa_model.specs.Variables.{IsVar, IsKeyVar, whole}
-use Rattle.cqa_model.specs.Graph.{Attacks, IsWeak}
+use Rattle.cqa_model.specs.Graph.{Attacks, IsWeak, IsPair}
 use Rattle.cqa_model.proofs.Classic.{mem-head, stable}
 use Rattle.cqa_model.proofs.Views.{linked-self}
 use Rattle.cqa_model.proofs.Interface.{dec_free, dec_var, closure-keeps}
 use Rattle.cqa_model.proofs.AttackDecisions.{dec_attacks}
-use Rattle.weak_pairs.specs.Pairs.{IsPair}
 use Rattle.weak_pairs.proofs.Structure.{crossed, whole-closed}
 
 module _ (q : Query) (told : ∥ IsPair q ∥₁) where

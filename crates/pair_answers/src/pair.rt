@@ -1,7 +1,7 @@
 //! A pair over a database: a query of two tables that attack each other weakly, with the database that it fits.
 
 ghost use Rattle.std.specs.Prelude.{◌≡◌, length};
-ghost use Rattle.weak_pairs.specs.Pairs.{IsPair};
+ghost use Rattle.cqa_model.specs.Graph.{IsPair};
 
 use table_blocks::Bound;
 

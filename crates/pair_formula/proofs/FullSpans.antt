@@ -39,7 +39,7 @@ use Rattle.row_lists.proofs.Reading.{rows-few}
 use Rattle.row_lists.proofs.Spans.{variables-length}
 use Rattle.repair_clauses.proofs.Naming.{of_names}
 use Rattle.repair_clauses.proofs.FreeRows as free
-use Rattle.weak_pairs.specs.Pairs.{IsPair}
+use Rattle.cqa_model.specs.Graph.{IsPair}
 use Rattle.pair_refutation.specs.declared.graph.Pair.{Pair}
 use Rattle.pair_refutation.specs.Graph.{positive, negative, not_both, graph_clauses, Meet, IsGraph}
 use Rattle.pair_formula.specs.Full.{IsFullRun, AreFullOf, IsFullSpan, HasFreeRow, AreFullSpans, IsRowNumber, IsRowPair, AddsPairs}

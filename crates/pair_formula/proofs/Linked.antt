@@ -29,7 +29,8 @@ use Rattle.repair_clauses.specs.Encodings.{IsEncoded}
 use Rattle.row_lists.proofs.Rows.{numbered, number_below, number_of, one_variable}
 use Rattle.repair_clauses.proofs.Rows.{block_numbers}
 use Rattle.row_lists.proofs.Order.{numbers_rise, slot_less}
-use Rattle.weak_pairs.specs.Pairs.{IsPair, FitsAlone, Agree}
+use Rattle.weak_pairs.specs.Pairs.{FitsAlone, Agree}
+use Rattle.cqa_model.specs.Graph.{IsPair}
 use Rattle.weak_pairs.proofs.Structure
 use Rattle.weak_pairs.specs.Starts.{starts_from}
 use Rattle.weak_pairs.proofs.Begins.{block-at, at-block, start-next}

@@ -24,8 +24,8 @@ use Rattle.join_access.proofs.Sorted.{one_sorted, sorted-from}
 use Rattle.pair_answers.specs.Numbers.{placed_in, numbered, place_of}
 use Rattle.pair_answers.specs.Kept.{id_of, AreAscendingFrom}
 use Rattle.pair_answers.specs.Kept as pairs
-use Rattle.repair_back.specs.Results.{AreKept, AreStored, Rejects}
-use Rattle.table_blocks.specs.Tables.{rows_in, names_in}
+use Rattle.repair_back.specs.Results.{AreKept, Rejects}
+use Rattle.table_blocks.specs.Tables.{AreStored, rows_in, names_in}
 use Rattle.table_blocks.proofs.Keeping.{sublist-sorted}
 
 -- ---- ascending numbers

@@ -3,8 +3,7 @@ use Rattle.std.specs.Prelude.{List, length}
 use Rattle.cqa_value.specs.declared.value.Value.{Value}
 use Rattle.cqa_model.specs.declared.query.Query.{Query}
 use Rattle.cqa_model.specs.Database.{Table}
-use Rattle.cnf_form.specs.Logs.{Refutes}
-use Rattle.cdcl.specs.Outcomes.{AreConsecutive}
+use Rattle.cnf_form.specs.Logs.{Refutes, AreConsecutive}
 use Rattle.repair_clauses.specs.Encodings.{IsEncoded}
 use Rattle.pair_formula.specs.declared.proving.Refuted.{Refuted}
 

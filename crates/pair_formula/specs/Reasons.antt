@@ -7,7 +7,7 @@ use Rattle.cqa_model.specs.Database.{Table}
 use Rattle.join_access.specs.Listing.{HasTooMany}
 use Rattle.repair_back.specs.declared.reason.Reason.{Reason}
 use Rattle.repair_back.specs.declared.reason.Reason.TheVariants.{ByBlock, Rejected, Refuted}
-use Rattle.repair_back.specs.Results.{AreStored}
+use Rattle.table_blocks.specs.Tables.{AreStored}
 use Rattle.repair_back.specs.Rejected.{AreRejectingRows}
 use Rattle.pair_formula.specs.Proving.{IsRefutedInOrder}
 

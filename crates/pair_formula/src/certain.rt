@@ -4,7 +4,7 @@
 
 ghost use Rattle.std.specs.Prelude.{◌≡◌, ◌↔◌, [], IfOk, IsTrue, OnOk, length};
 ghost use Rattle.cqa_model.specs.Certain.{IsCertain, IsCertainAnswer};
-ghost use Rattle.weak_pairs.specs.Pairs.{IsPair};
+ghost use Rattle.cqa_model.specs.Graph.{IsPair};
 ghost use Rattle.row_answers.specs.Sides.{IsAnswerOf, IsDisputedAnswer, IsOf};
 ghost use Rattle.row_answers.specs.Sifting.{Sifts, AreSifted};
 ghost use Rattle.repair_clauses.specs.Candidates.{AreCandidates};

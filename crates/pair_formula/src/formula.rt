@@ -6,7 +6,7 @@ ghost use Rattle.cqa_model.specs.Certain.{IsCertain};
 ghost use Rattle.cnf_form.specs.Literals.{literals};
 ghost use Rattle.join_access.specs.Listing.{names_of};
 ghost use Rattle.join_access.specs.declared.witness.Witness.{Witness as Named};
-ghost use Rattle.weak_pairs.specs.Pairs.{IsPair};
+ghost use Rattle.cqa_model.specs.Graph.{IsPair};
 ghost use Rattle.row_lists.specs.Clauses.{positive};
 ghost use Rattle.row_lists.specs.Spans.{numbers_in};
 ghost use Rattle.pair_refutation.specs.Graph.{not_both};

@@ -2,8 +2,7 @@
 
 ghost use Rattle.std.specs.Prelude.{◌≡◌, IfErr, IfOk, length};
 ghost use Rattle.cqa_model.specs.Certain.{IsCertain};
-ghost use Rattle.cnf_form.specs.Logs.{Refutes};
-ghost use Rattle.cdcl.specs.Outcomes.{AreConsecutive};
+ghost use Rattle.cnf_form.specs.Logs.{Refutes, AreConsecutive};
 ghost use Rattle.join_access.specs.Listing.{HasTooMany, IsOver};
 ghost use Rattle.pair_refutation.specs.Formulas.{IsPairFormula, IsUnsatisfiable};
 ghost use Rattle.pair_formula.specs.Proving.{IsRefutedInOrder};

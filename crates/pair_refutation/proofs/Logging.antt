@@ -11,8 +11,7 @@ use Rattle.cnf_form.specs.declared.formula.Cnf.{Cnf}
 use Rattle.cnf_form.specs.declared.log.Step.{Step}
 use Rattle.cnf_form.specs.declared.log.Step.TheVariants.{Add, Delete}
 use Rattle.cnf_form.specs.Literals.{literals, opposite}
-use Rattle.cnf_form.specs.Logs.{Live, HintsPass, StepsPass, Refutes, added, numbered, with_clause}
-use Rattle.cdcl.specs.Outcomes.{AreConsecutive}
+use Rattle.cnf_form.specs.Logs.{Live, HintsPass, StepsPass, Refutes, added, numbered, with_clause, AreConsecutive}
 use Rattle.cqa_model.proofs.Classic.{mem-nil}
 use Rattle.pair_refutation.specs.declared.graph.Pair.{Pair}
 use Rattle.pair_refutation.specs.Graph.{positive, negative, not_both, graph_clauses, block_at}

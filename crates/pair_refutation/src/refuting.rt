@@ -3,8 +3,7 @@
 
 ghost use Rattle.std.specs.Prelude.{◌≡◌, ◌+◌, ◌++◌, ◌∷◌, ◌<◌, ◌≤◌, ◌↔◌, ℕ, [], Contains, IfOk, IsTrue, None, OnOk, Some, length, pos, slice_index};
 ghost use Rattle.cnf_form.specs.declared.log.Step.TheVariants.{Add};
-ghost use Rattle.cnf_form.specs.Logs.{Refutes};
-ghost use Rattle.cdcl.specs.Outcomes.{AreConsecutive};
+ghost use Rattle.cnf_form.specs.Logs.{Refutes, AreConsecutive};
 ghost use Rattle.weak_pairs.specs.Peeling.{AreBlocked, IsBlockNumber, IsForced};
 ghost use Rattle.pair_refutation.specs.Graph.{AreAdjacent};
 ghost use Rattle.pair_refutation.specs.Formulas.{IsPairFormula, IsReadTo, IsUnsatisfiable};

@@ -5,7 +5,7 @@ use Rattle.cqa_value.proofs.Words.{member_place}
 use Rattle.cqa_model.specs.declared.query.Query.{Query}
 use Rattle.cqa_model.specs.declared.query.RowId.{RowId}
 use Rattle.cqa_model.specs.Database.{Table}
-use Rattle.row_lists.specs.Lists.{AreStored, IsIn}
+use Rattle.row_lists.specs.Lists.{AreStoredLists, IsIn}
 use Rattle.row_lists.specs.Formulas.{AreWithin}
 use Rattle.table_blocks.specs.Tables.{rows_at}
 use Rattle.part_search.specs.Parts.{AreNamesIn, IsFrameFor, IsTableIn}
@@ -22,5 +22,5 @@ module _ (db : List Table) (parts : List Query) (tables : List ℕ) (f : IsFrame
   pub lists-within : AreWithin tables all
   lists-within id i = let p = member_place tables id.table 0 (f.all id.table (place id i).0) in (p.0, p.1, p.2)
 
-  pub lists-stored : AreStored db all
+  pub lists-stored : AreStoredLists db all
   lists-stored id i = let p = lists-within id i in (subst (λ t. t < length db) p.2 (f.is.there p.0 p.1), (place id i).1)

@@ -7,7 +7,7 @@ use Rattle.cqa_model.specs.Query.{atom_at, atom_key}
 use Rattle.cqa_model.specs.Certain.{IsCertain}
 use Rattle.cqa_model.specs.Plan.{IsPlanOf}
 use Rattle.fo_plan.specs.FirstBlock.{IsFirstBlock}
-use Rattle.repair_back.specs.Results.{AreStored}
+use Rattle.table_blocks.specs.Tables.{AreStored}
 use Rattle.repair_back.specs.Rejected.{AreRejectingRows}
 use Rattle.repair_back.specs.declared.reason.Reason.{Reason}
 use Rattle.repair_back.specs.declared.reason.Reason.TheVariants.{ByBlock, Rejected, Refuted}

@@ -4,18 +4,18 @@ ghost use Rattle.std.specs.Prelude.{◌≡◌, ◌≤◌, IfOk, IfSome, IsNone, 
 ghost use Rattle.cqa_model.specs.Database.{key_of};
 ghost use Rattle.cqa_model.specs.Certain.{IsCertain};
 ghost use Rattle.cqa_value.specs.declared.row.TheConstants.{MOST_COLUMNS};
-ghost use Rattle.cqa_model.specs.Plan.{IsPlanOf};
+ghost use Rattle.cqa_model.specs.Plan.{IsPlanOf, IsExact};
 ghost use Rattle.join_access.specs.Spots.{ArePaths};
 ghost use Rattle.plan_rows.specs.Links.{AreWays};
-ghost use Rattle.fo_rewrite.specs.Planning.{IsExact};
 ghost use Rattle.plan_reasons.specs.Reasons.{IsPlanReason};
 
 use cqa_model::Plan;
 use cqa_value::{Items, NOTHING, NoMemory, Row};
 use fo_plan::{block_of, paths_of, ways_of};
 use join_access::RowIndex;
+use plan_repair::mend;
 use plan_rows::Link;
-use repair_back::{Reason, chosen, mend};
+use repair_back::{Reason, chosen};
 use std::alloc::Global;
 use table_blocks::Bound;
 

@@ -18,7 +18,7 @@ use Rattle.cqa_model.proofs.Databases.{rewriting_is_exact}
 use Rattle.cqa_model.proofs.Elimination.{plan-eliminates}
 use Rattle.cqa_model.proofs.Existence.{some_repair}
 use Rattle.cqa_model.proofs.Fitting.{FitsTables, fits_tables}
-use Rattle.fo_rewrite.proofs.Distinct.{plan-all, plan-atoms}
+use Rattle.cqa_model.proofs.PlanAtoms.{plan-all, plan-atoms}
 use Rattle.sql_text.specs.declared.syntax.Child.{Child}
 use Rattle.sql_text.specs.Meaning.{IsChoice, cell_value, MeetsAll, IsRowOfEach, Means}
 use Rattle.sql_steps.specs.declared.part.Part.{Part}

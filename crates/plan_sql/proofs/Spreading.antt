@@ -11,7 +11,7 @@ use Rattle.cqa_model.specs.Query.{atom_key}
 use Rattle.cqa_model.specs.Variables.{whole}
 use Rattle.cqa_model.proofs.Classic.{mem-head, mem-tail, mem-nil, mem-cases}
 use Rattle.cqa_model.proofs.Elimination.{plan-eliminates}
-use Rattle.fo_rewrite.proofs.Distinct.{plan-atoms}
+use Rattle.cqa_model.proofs.PlanAtoms.{plan-atoms}
 use Rattle.sql_text.specs.declared.syntax.Source.TheVariants.{Step as Earlier}
 use Rattle.sql_text.specs.declared.syntax.Alias.TheVariants.{Context}
 use Rattle.sql_text.specs.declared.syntax.Listed.{Listed}

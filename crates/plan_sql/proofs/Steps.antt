@@ -9,7 +9,7 @@ use Rattle.cqa_model.proofs.Classic.{mem-head, mem-tail}
 use Rattle.cqa_model.specs.Variables.{whole}
 use Rattle.cqa_model.specs.Plan.{IsPlanOf}
 use Rattle.cqa_model.proofs.Elimination.{plan-eliminates}
-use Rattle.fo_rewrite.proofs.Distinct.{plan-atoms}
+use Rattle.cqa_model.proofs.PlanAtoms.{plan-atoms}
 use Rattle.sql_steps.specs.Shapes.{AreAtoms}
 use Rattle.sql_steps.specs.Variables.{has}
 use Rattle.sql_steps.specs.declared.fitting.Known.{Known}

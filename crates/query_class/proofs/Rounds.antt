@@ -5,8 +5,8 @@ use Rattle.cqa_model.specs.Variables.{View}
 use Rattle.cqa_model.specs.Graph.{Attacks as IsAttack, IsWeak, IsWalk, HasStrongStep, IsCyclic, IsStronglyCyclic}
 use Rattle.attack_graph.specs.declared.graph.Attacks.{Attacks}
 use Rattle.attack_graph.specs.Attacking.{HasAttack, HasWeakAttack, AreAttacks}
-use Rattle.cqa_model.specs.declared.class.Class.{Class}
-use Rattle.cqa_model.specs.declared.class.Class.TheVariants.{FirstOrder, Polynomial, CoNp}
+use Rattle.complexity_class.specs.declared.class.Class.{Class}
+use Rattle.complexity_class.specs.declared.class.Class.TheVariants.{FirstOrder, Polynomial, CoNp}
 use Rattle.query_class.specs.Cycles.{IsClass, IsClassOf, Reaches, IsStrong}
 
 -- relations that agree, the weak ones where there is an attack, have the same cycles

@@ -5,8 +5,8 @@ use Rattle.cqa_model.specs.Variables.{View}
 use Rattle.cqa_model.specs.Graph.{Attacks as IsAttack, IsWeak, IsWalk, IsCyclic, IsStronglyCyclic}
 use Rattle.attack_graph.specs.declared.graph.Attacks.{Attacks}
 use Rattle.attack_graph.specs.Attacking.{HasAttack, HasWeakAttack}
-use Rattle.cqa_model.specs.declared.class.Class.{Class}
-use Rattle.cqa_model.specs.declared.class.Class.TheVariants.{FirstOrder, Polynomial, CoNp}
+use Rattle.complexity_class.specs.declared.class.Class.{Class}
+use Rattle.complexity_class.specs.declared.class.Class.TheVariants.{FirstOrder, Polynomial, CoNp}
 
 -- the class by attacks and weak attacks, each given as a relation: first-order without a cycle, polynomial where no cycle is
 -- strong, conp-complete otherwise (Koutris and Wijsen, ACM TODS 2017)

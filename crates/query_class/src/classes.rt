@@ -17,7 +17,8 @@ ghost use Rattle.query_class.specs.Cycles.{
 
 use crate::walking::reach;
 use attack_graph::Attacks;
-use cqa_model::{Class, MOST_ATOMS};
+use complexity_class::Class;
+use cqa_model::MOST_ATOMS;
 
 /// The class of a graph of attacks, and so of each query, and of each view of one, whose attacks they are.
 pub fn class_of(graph: &Attacks) -> Class

@@ -5,4 +5,4 @@ mod classes;
 mod walking;
 
 pub use classes::class_of;
-pub use cqa_model::Class;
+pub use complexity_class::Class;

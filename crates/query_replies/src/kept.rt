@@ -2,7 +2,7 @@
 
 ghost use Rattle.std.specs.Prelude.{◌≡◌, ◌<◌, IfOk, [], length, map, slice_index_or};
 ghost use Rattle.cqa_model.specs.Database.{stored};
-ghost use Rattle.repair_back.specs.Results.{AreStored};
+ghost use Rattle.table_blocks.specs.Tables.{AreStored};
 ghost use Rattle.query_replies.specs.Kept.{kept_line};
 
 use crate::names::name_of;

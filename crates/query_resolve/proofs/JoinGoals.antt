@@ -1,8 +1,8 @@
 -- What a range over several tables asks of, and what it groups by, are columns of its atoms.
 use Rattle.std.proofs.Common.{◌<◌, ℕ, List, length, Option, Some, None, IfSome, arith}
 use Rattle.std.specs.List.{AllZip}
-use Rattle.cqa_model.specs.declared.aggregate.Goal.{Goal}
-use Rattle.cqa_model.specs.declared.aggregate.Goal.TheVariants as goals
+use Rattle.aggregate_range.specs.declared.aggregate.Goal.{Goal}
+use Rattle.aggregate_range.specs.declared.aggregate.Goal.TheVariants as goals
 use Rattle.cqa_model.specs.declared.query.Atom.{Atom}
 use Rattle.cqa_model.specs.Database.{Table}
 use Rattle.cqa_model.specs.declared.query.ColRef.{ColRef}

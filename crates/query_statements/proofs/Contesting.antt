@@ -6,8 +6,8 @@ use Rattle.std.proofs.lemmas.List.Folds.{Any-from_list_any, list_any_at}
 use Rattle.cqa_value.specs.declared.value.Value.{Value}
 use Rattle.cqa_value.specs.Values.{row_eq, row_decides}
 use Rattle.cqa_value.proofs.Words.{clash_not, mem-head, mem-tail, mem-nil, mem-cases}
-use Rattle.cqa_model.specs.declared.aggregate.End.{End}
-use Rattle.cqa_model.specs.declared.aggregate.Goal.{Goal}
+use Rattle.aggregate_range.specs.declared.aggregate.End.{End}
+use Rattle.aggregate_range.specs.declared.aggregate.Goal.{Goal}
 use Rattle.cqa_model.specs.declared.query.RowId.{RowId}
 use Rattle.cqa_model.specs.Database.{Table, key_of}
 use Rattle.cqa_model.proofs.BlockOrder.{shares-from_key, key-from_shares}
@@ -19,8 +19,8 @@ use Rattle.range_ask.specs.Picks.{ArePicked, IsInBlocks}
 use Rattle.range_ask.specs.Choosing.{wide_names}
 use Rattle.range_ask.specs.Walking.{rows_of_blocks}
 use Rattle.range_ask.proofs.Picked.{Fresh, fresh-left, fresh-right, sorted-fresh, picks_are_repairs}
-use Rattle.row_cursor.specs.Conflicts.{is_conflict}
-use Rattle.row_cursor.proofs.BlockLists.{row_in, whole-block}
+use Rattle.row_blocks.specs.Conflicts.{is_conflict}
+use Rattle.row_blocks.proofs.BlockLists.{row_in, whole-block}
 
 in_fresh : (bs : List (List (List Value))) (b : List (List Value)) → Fresh (rows_of_blocks bs) → Contains bs b → Fresh b
 in_fresh [] b f m = absurd (mem-nil b m)

@@ -3,7 +3,7 @@ use Rattle.std.proofs.Common.{◌≡◌, ◌<◌, inr, ℕ, List, length, None, 
 use Rattle.std.proofs.lemmas.List.{length-map}
 use Rattle.cqa_value.specs.declared.memory.Fail.{Fail}
 use Rattle.cqa_value.specs.declared.memory.Fail.TheVariants as fails
-use Rattle.cqa_model.specs.declared.aggregate.End.{End}
+use Rattle.aggregate_range.specs.declared.aggregate.End.{End}
 use Rattle.cqa_model.specs.declared.query.Query.{Query}
 use Rattle.cqa_model.specs.declared.query.RowId.{RowId}
 use Rattle.cqa_model.specs.Database.{Table, IsDatabase}
@@ -15,10 +15,9 @@ use Rattle.query_resolve.specs.Resolved.{IsRangeOf}
 use Rattle.range_join.specs.declared.sought.Sought.{Sought}
 use Rattle.range_join.specs.Joins.{IsJoinAttained}
 use Rattle.refusals.specs.declared.refusal.Refusal.{Refusal}
-use Rattle.repair_back.specs.Results.{AreStored}
+use Rattle.table_blocks.specs.Tables.{AreStored, rows_at, key_at}
 use Rattle.reply_text.specs.declared.reply.Reply.{Reply}
 use Rattle.spj_syntax.specs.declared.tree.RawRange.{RawRange}
-use Rattle.table_blocks.specs.Tables.{rows_at, key_at}
 use Rattle.session_state.specs.State.{State}
 use Rattle.session_state.specs.Replying.{Replies, IsReplyOutcome}
 use Rattle.query_statements.specs.RangeOfJoin.{TellsJoin, TellsRangeJoin}

@@ -5,8 +5,8 @@ use Rattle.std.proofs.lemmas.List.{get_or_past, length-map}
 use Rattle.cqa_value.specs.declared.value.Value.{Value}
 use Rattle.cqa_value.proofs.Words.{Contains-map}
 use Rattle.cqa_value.specs.declared.memory.Fail.{Fail}
-use Rattle.cqa_model.specs.declared.aggregate.End.{End}
-use Rattle.cqa_model.specs.declared.aggregate.Goal.{Goal}
+use Rattle.aggregate_range.specs.declared.aggregate.End.{End}
+use Rattle.aggregate_range.specs.declared.aggregate.Goal.{Goal}
 use Rattle.cqa_model.specs.declared.query.RowId.{RowId}
 use Rattle.cqa_model.specs.Database.{Table, IsDatabase, IsTable, stored}
 use Rattle.cqa_model.specs.Repairs.{IsTableRepair}
@@ -16,14 +16,13 @@ use Rattle.refusals.specs.declared.refusal.Refusal.{Refusal}
 use Rattle.refusals.specs.Refusal.{IsRefusedAs, Checked}
 use Rattle.spj_syntax.specs.declared.tree.RawGoal.{RawGoal}
 use Rattle.spj_syntax.specs.declared.tree.RawTest.{RawTest}
-use Rattle.table_blocks.specs.Tables.{table_named, rows_at, key_at, rows_in, names_in}
+use Rattle.table_blocks.specs.Tables.{table_named, rows_at, key_at, rows_in, names_in, AreStored}
 use Rattle.table_blocks.specs.declared.test.ColumnTest.{ColumnTest}
 use Rattle.query_resolve.specs.Names.{columns_at}
 use Rattle.query_resolve.specs.Checks.{goal_fault, tests_fault, group_fault}
 use Rattle.query_resolve.specs.Resolved.{IsGoalOf, AreTestsOf}
 use Rattle.query_resolve.proofs.Members.{refused_first, refused_second, neither}
 use Rattle.range_ask.specs.Ranges.{IsAttained}
-use Rattle.repair_back.specs.Results.{AreStored}
 use Rattle.repair_back.proofs.Naming.{in_map}
 use Rattle.reply_text.specs.declared.reply.Reply.{Reply}
 use Rattle.session_state.specs.State.{State}

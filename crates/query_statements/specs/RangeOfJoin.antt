@@ -13,7 +13,8 @@ use Rattle.range_join.specs.declared.sought.Sought.{Sought}
 use Rattle.range_groups.specs.JoinGroups.{AreJoinGroups}
 use Rattle.range_join.specs.Joins.{IsJoinRange}
 use Rattle.refusals.specs.declared.refusal.Refusal.TheVariants.{WitnessLimit}
-use Rattle.repair_back.specs.Results.{contested_of, AreStored}
+use Rattle.repair_back.specs.Results.{contested_of}
+use Rattle.table_blocks.specs.Tables.{AreStored}
 use Rattle.reply_text.specs.declared.reply.Reply.{Reply}
 use Rattle.reply_text.specs.declared.reply.Reply.TheVariants as replies
 use Rattle.spj_syntax.specs.declared.tree.RawRange.{RawRange}

@@ -6,12 +6,12 @@ ghost use Rattle.refusals.specs.Refusal.{Checked};
 ghost use Rattle.spj_syntax.specs.Limits.{most_items};
 ghost use Rattle.query_resolve.specs.Names.{columns_at};
 ghost use Rattle.query_resolve.specs.Checks.{group_fault};
-ghost use Rattle.repair_back.specs.Results.{AreStored};
+ghost use Rattle.table_blocks.specs.Tables.{AreStored};
 ghost use Rattle.session_state.specs.Replying.{Replies, IsReplyOutcome};
 ghost use Rattle.query_replies.specs.Kept.{kept_line};
 ghost use Rattle.query_statements.specs.Range.{range_fault, group_line, TellsEnds, TellsGroups, TellsBy, TellsRange};
 
-use cqa_model::Goal;
+use aggregate_range::Goal;
 use cqa_value::{Fail, Items, Name, NoMemory};
 use query_replies::kept_rows;
 use query_resolve::{resolve_goal, resolve_group, resolve_tests};

@@ -6,7 +6,7 @@ ghost use Rattle.cqa_model.specs.Query.{FitsDatabase};
 ghost use Rattle.join_access.specs.Listing.{HasTooMany, IsOver};
 ghost use Rattle.query_resolve.specs.Checks.{range_join_fault};
 ghost use Rattle.range_join.specs.Worths.{AreOthersStrict};
-ghost use Rattle.repair_back.specs.Results.{AreStored};
+ghost use Rattle.table_blocks.specs.Tables.{AreStored};
 ghost use Rattle.session_state.specs.Replying.{Replies, IsReplyOutcome};
 ghost use Rattle.query_statements.specs.RangeOfJoin.{AreChosenEnds, TellsJoin, TellsJoinBy, TellsJoinEnds, TellsJoinGroups, TellsRangeJoin};
 

@@ -3,9 +3,8 @@
 
 ghost use Rattle.std.specs.Prelude.{IfOk};
 ghost use Rattle.cqa_model.specs.Certain.{IsCertainAnswer};
-ghost use Rattle.cqa_model.specs.Plan.{IsEliminationOf};
+ghost use Rattle.cqa_model.specs.Plan.{IsEliminationOf, IsExact};
 ghost use Rattle.cqa_model.specs.Query.{FitsDatabase};
-ghost use Rattle.fo_rewrite.specs.Planning.{IsExact};
 ghost use Rattle.row_answers.specs.Sides.{IsAnswerOf, IsDisputedAnswer};
 ghost use Rattle.query_resolve.specs.Checks.{query_fault};
 ghost use Rattle.session_state.specs.Replying.{Replies, IsReplyOutcome};

@@ -3,8 +3,7 @@ use Rattle.std.proofs.Common.{◌≡◌, ◌≢◌, ℕ, zero, suc, ◌<◌, Lis
 use native.Mathlib.Decide.{ℕ_discrete}
 use Rattle.cqa_model.specs.declared.query.Query.{Query}
 use Rattle.cqa_model.specs.Variables.{whole}
-use Rattle.cqa_model.specs.Graph.{Attacks, IsWalk, IsWeak}
-use Rattle.weak_pairs.specs.Pairs.{IsPair}
+use Rattle.cqa_model.specs.Graph.{Attacks, IsWalk, IsWeak, IsPair}
 use Rattle.query_strategy.specs.Strategies.{HasNoPlan}
 
 module _ (R : ℕ → ℕ → Type 0) where

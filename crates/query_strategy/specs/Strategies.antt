@@ -1,10 +1,8 @@
 -- Which method decides the rows of a query.
 use Rattle.cqa_model.specs.declared.query.Query.{Query}
 use Rattle.cqa_model.specs.Variables.{whole}
-use Rattle.cqa_model.specs.Graph.{HasCycle}
-use Rattle.cqa_model.specs.Plan.{IsEliminationOf, IsPlanOf}
-use Rattle.fo_rewrite.specs.Planning.{IsExact}
-use Rattle.weak_pairs.specs.Pairs.{IsPair}
+use Rattle.cqa_model.specs.Graph.{HasCycle, IsPair}
+use Rattle.cqa_model.specs.Plan.{IsEliminationOf, IsPlanOf, IsExact}
 use Rattle.query_strategy.specs.declared.strategy.Strategy.{Strategy}
 use Rattle.query_strategy.specs.declared.strategy.Strategy.TheVariants.{Plan, Pair, Search}
 

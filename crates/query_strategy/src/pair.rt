@@ -3,7 +3,7 @@
 ghost use Rattle.std.specs.Prelude.{◌↔◌, IsTrue};
 ghost use Rattle.cqa_model.specs.Variables.{whole};
 ghost use Rattle.key_closure.specs.Members.{AreSame, seen};
-ghost use Rattle.weak_pairs.specs.Pairs.{IsPair};
+ghost use Rattle.cqa_model.specs.Graph.{IsPair};
 ghost use Rattle.query_strategy.specs.Strategies.{HasNoPlan};
 
 use attack_graph::weak_row;

@@ -5,8 +5,8 @@ use Rattle.std.specs.List.{AllZip}
 use Rattle.std.proofs.lemmas.Int.{ints}
 use Rattle.cqa_value.specs.declared.value.Value.{Value}
 use Rattle.cqa_value.proofs.Words.{Contains-filter, all_zip_right, clash}
-use Rattle.cqa_model.specs.declared.aggregate.End.{End}
-use Rattle.cqa_model.specs.declared.aggregate.End.TheVariants.{Empty, Number, Held}
+use Rattle.aggregate_range.specs.declared.aggregate.End.{End}
+use Rattle.aggregate_range.specs.declared.aggregate.End.TheVariants.{Empty, Number, Held}
 use Rattle.cqa_model.proofs.Classic.{mem-nil}
 use Rattle.table_blocks.specs.declared.test.ColumnTest.{ColumnTest}
 use Rattle.range_ask.specs.declared.way.Way.{Way}

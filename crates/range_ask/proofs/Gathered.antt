@@ -8,7 +8,7 @@ use Rattle.std.proofs.lemmas.Option.{slice_get-get_or}
 use Rattle.cqa_value.specs.declared.value.Value.{Value}
 use Rattle.cqa_value.specs.Values.{value_cmp, value_cmp_total, value_ties, value_decides}
 use Rattle.cqa_value.proofs.Words.{Contains-filter, Contains-map, Contains-slice_get, all_zip_right, mem-nil}
-use Rattle.cqa_model.specs.declared.aggregate.Goal.{Goal}
+use Rattle.aggregate_range.specs.declared.aggregate.Goal.{Goal}
 use Rattle.cqa_model.specs.declared.limits.TheConstants.{MOST_ROWS}
 use Rattle.cqa_model.specs.Database.{Table}
 use Rattle.table_blocks.specs.declared.test.ColumnTest.{ColumnTest}

@@ -5,10 +5,10 @@ use Rattle.std.specs.List.{AllZip, filter}
 use Rattle.std.specs.Option.{option_copied}
 use Rattle.cqa_value.specs.declared.value.Value.{Value}
 use Rattle.cqa_value.proofs.Words.{Contains-filter}
-use Rattle.cqa_model.specs.declared.aggregate.Goal.{Goal}
-use Rattle.cqa_model.specs.declared.aggregate.Goal.TheVariants.{Count, Sum, Min, Max}
-use Rattle.cqa_model.specs.declared.aggregate.End.{End}
-use Rattle.cqa_model.specs.declared.aggregate.End.TheVariants.{Empty, Number, Held}
+use Rattle.aggregate_range.specs.declared.aggregate.Goal.{Goal}
+use Rattle.aggregate_range.specs.declared.aggregate.Goal.TheVariants.{Count, Sum, Min, Max}
+use Rattle.aggregate_range.specs.declared.aggregate.End.{End}
+use Rattle.aggregate_range.specs.declared.aggregate.End.TheVariants.{Empty, Number, Held}
 use Rattle.cqa_model.specs.declared.query.RowId.{RowId}
 use Rattle.cqa_model.specs.Database.{Table}
 use Rattle.cqa_model.proofs.Classic.{mem-nil, mem-head}

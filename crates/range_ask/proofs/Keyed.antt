@@ -6,7 +6,7 @@ use Rattle.cqa_value.specs.declared.value.Value.{Value}
 use Rattle.cqa_value.specs.declared.value.Value.TheVariants.{Int, Text}
 use Rattle.cqa_value.specs.contracts.value.ValueOrd.TheImpl.{cmp-value as derived_cmp}
 use Rattle.cqa_value.specs.Values.{value_cmp, value_ties, value_decides}
-use Rattle.cqa_model.specs.declared.aggregate.Goal.{Goal}
+use Rattle.aggregate_range.specs.declared.aggregate.Goal.{Goal}
 use Rattle.range_ask.specs.declared.total.Turn.{Turn}
 use Rattle.range_ask.specs.declared.tally.Tally.{Tally}
 use Rattle.range_ask.specs.Tallying.{IsMore, HasRowMore}

@@ -7,7 +7,7 @@ use Rattle.cqa_model.specs.declared.query.RowId.{RowId}
 use Rattle.cqa_model.proofs.Classic.{mem-nil, mem-cases}
 use Rattle.range_ask.specs.Walking.{wide_from, wide_of}
 use Rattle.range_ask.specs.Choosing.{wide_names}
-use Rattle.row_cursor.specs.Conflicts.{is_conflict}
+use Rattle.row_blocks.specs.Conflicts.{is_conflict}
 
 abbrev one_if : Bool → ℕ → List ℕ
 one_if t n = if t then n ∷ [] else []

@@ -5,8 +5,8 @@ use Rattle.std.specs.List.{filter}
 use Rattle.std.proofs.lemmas.List.Elements.{Contains-append_right}
 use Rattle.cqa_value.specs.declared.value.Value.{Value}
 use Rattle.cqa_value.proofs.Words.{Contains-filter}
-use Rattle.cqa_model.specs.declared.aggregate.Goal.{Goal}
-use Rattle.cqa_model.specs.declared.aggregate.Goal.TheVariants.{Count, Sum, Min, Max}
+use Rattle.aggregate_range.specs.declared.aggregate.Goal.{Goal}
+use Rattle.aggregate_range.specs.declared.aggregate.Goal.TheVariants.{Count, Sum, Min, Max}
 use Rattle.cqa_model.proofs.Classic.{mem-head}
 use Rattle.range_ask.specs.declared.tally.Tally.{Tally}
 use Rattle.range_ask.specs.declared.way.Way.TheVariants.{Up, Down}

@@ -2,7 +2,7 @@
 use Rattle.std.specs.Prelude.{◌≡◌, ℕ, if◌then◌else◌, List, [], ◌∷◌, length}
 use Rattle.std.specs.Option.{option_copied}
 use Rattle.cqa_value.specs.declared.value.Value.{Value}
-use Rattle.cqa_model.specs.declared.aggregate.Goal.{Goal}
+use Rattle.aggregate_range.specs.declared.aggregate.Goal.{Goal}
 use Rattle.cqa_model.specs.declared.query.RowId.{RowId}
 use Rattle.cqa_model.specs.Database.{Table}
 use Rattle.table_blocks.specs.declared.test.ColumnTest.{ColumnTest}
@@ -15,7 +15,7 @@ use Rattle.range_ask.specs.Ranges.{IsRange}
 use Rattle.range_ask.specs.Picks.{IsInBlocks}
 use Rattle.range_ask.specs.Walking.{wide_of}
 use Rattle.range_ask.specs.Reaching.{as_end, top_row, with_top}
-use Rattle.row_cursor.specs.Conflicts.{is_conflict}
+use Rattle.row_blocks.specs.Conflicts.{is_conflict}
 use Rattle.table_blocks.specs.Tables.{names_in}
 
 -- of names, one for each block, those of blocks of two or more rows

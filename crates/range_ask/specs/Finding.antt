@@ -1,8 +1,8 @@
 -- What is found of the first rows of a block.
 use Rattle.std.specs.Prelude.{◌≡◌, ℕ, ◌<◌, Bool, true, false, List, [], Option, Some, None, slice_index_or, ℤ, pos, ◌≤ℤ◌}
 use Rattle.cqa_value.specs.declared.value.Value.{Value}
-use Rattle.cqa_model.specs.declared.aggregate.Goal.{Goal}
-use Rattle.cqa_model.specs.declared.aggregate.Goal.TheVariants.{Count, Sum, Min, Max}
+use Rattle.aggregate_range.specs.declared.aggregate.Goal.{Goal}
+use Rattle.aggregate_range.specs.declared.aggregate.Goal.TheVariants.{Count, Sum, Min, Max}
 use Rattle.range_ask.specs.declared.sums.Best.{Best}
 use Rattle.range_ask.specs.declared.sums.Open.{Open}
 use Rattle.range_ask.specs.declared.way.Way.{Way}

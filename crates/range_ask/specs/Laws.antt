@@ -2,7 +2,7 @@
 use Rattle.std.specs.Prelude.{◌≡◌, ◌↔◌, ℕ, true, List}
 use Rattle.std.specs.List.Sorted.{IsStrictlySortedBy}
 use Rattle.cqa_value.specs.declared.value.Value.{Value}
-use Rattle.cqa_model.specs.declared.aggregate.Goal.{Goal}
+use Rattle.aggregate_range.specs.declared.aggregate.Goal.{Goal}
 use Rattle.cqa_model.specs.Database.{Table, block_cmp}
 use Rattle.cqa_model.specs.Repairs.{IsTableRepair}
 use Rattle.cqa_model.specs.Blocks.{AreBlocks}

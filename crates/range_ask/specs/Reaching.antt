@@ -3,8 +3,8 @@ use Rattle.std.specs.Prelude.{◌≡◌, ℕ, ◌<◌, Bool, true, false, List, 
 use Rattle.std.specs.List.{filter}
 use Rattle.std.specs.Option.{option_copied}
 use Rattle.cqa_value.specs.declared.value.Value.{Value}
-use Rattle.cqa_model.specs.declared.aggregate.End.{End}
-use Rattle.cqa_model.specs.declared.aggregate.End.TheVariants.{Empty, Held}
+use Rattle.aggregate_range.specs.declared.aggregate.End.{End}
+use Rattle.aggregate_range.specs.declared.aggregate.End.TheVariants.{Empty, Held}
 use Rattle.range_ask.specs.declared.way.Way.{Way}
 use Rattle.range_ask.specs.declared.reach.Reach.{Reach}
 use Rattle.range_ask.specs.declared.top.Top.{Top}

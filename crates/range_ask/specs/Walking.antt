@@ -4,13 +4,13 @@ use Rattle.std.specs.List.{AllZip}
 use Rattle.std.specs.List.Sorted.{IsStrictlySortedBy}
 use Rattle.std.specs.Ordering.{nat_cmp}
 use Rattle.cqa_value.specs.declared.value.Value.{Value}
-use Rattle.cqa_model.specs.declared.aggregate.Goal.{Goal}
-use Rattle.cqa_model.specs.declared.aggregate.Goal.TheVariants.{Count, Sum, Min, Max}
+use Rattle.aggregate_range.specs.declared.aggregate.Goal.{Goal}
+use Rattle.aggregate_range.specs.declared.aggregate.Goal.TheVariants.{Count, Sum, Min, Max}
 use Rattle.range_ask.specs.declared.sums.Side.{Side}
 use Rattle.range_ask.specs.declared.sums.Sides.{Sides}
 use Rattle.range_ask.specs.Ranges.{total}
 use Rattle.range_ask.specs.Picks.{IsCheapest, IsDearest}
-use Rattle.row_cursor.specs.Conflicts.{is_conflict}
+use Rattle.row_blocks.specs.Conflicts.{is_conflict}
 use Rattle.table_blocks.specs.Tables.{rows_in}
 
 -- the rows of blocks, one behind the other

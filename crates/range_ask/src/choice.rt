@@ -2,7 +2,7 @@
 
 ghost use Rattle.std.specs.Prelude.{◌≡◌, ◌<◌, IfOk, IfSome, length};
 ghost use Rattle.std.specs.Option.{option_copied};
-ghost use Rattle.cqa_model.specs.declared.aggregate.Goal.TheVariants.{Max, Min};
+ghost use Rattle.aggregate_range.specs.declared.aggregate.Goal.TheVariants.{Max, Min};
 ghost use Rattle.range_ask.specs.Choosing.{IsChoiceBetween, IsRangeChoice, IsLoose};
 ghost use Rattle.range_ask.specs.Reaching.{as_end};
 ghost use Rattle.range_ask.specs.Walking.{IsTotal};
@@ -12,7 +12,7 @@ use crate::reach::Reach;
 use crate::sums::{Sides, both_sums};
 use crate::top::with_top;
 use crate::way::{Look, Way};
-use cqa_model::{End, Goal};
+use aggregate_range::{End, Goal};
 use cqa_value::{NOTHING, NoMemory, Row};
 use std::alloc::Global;
 use table_blocks::{ColumnTest, Database};

@@ -4,7 +4,8 @@ ghost use Rattle.std.specs.Prelude.{◌≡◌, ◌<◌, ℕ, Contains, IfOk, len
 ghost use Rattle.range_ask.specs.Choosing.{AreEnds};
 
 use crate::choice::choose;
-use cqa_model::{End, Goal, RowId};
+use aggregate_range::{End, Goal};
+use cqa_model::RowId;
 use cqa_value::{Items, NoMemory};
 use std::alloc::Global;
 use table_blocks::{ColumnTest, Database};

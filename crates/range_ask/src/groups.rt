@@ -15,7 +15,7 @@ ghost use Rattle.range_ask.specs.Tallying.{AreTallied, HasMet, HasRowMore, IsEnd
 use crate::tally::{Tally, both_ends, more};
 use crate::total::Turn;
 use crate::worth::meets;
-use cqa_model::{End, Goal};
+use aggregate_range::{End, Goal};
 use cqa_value::{Items, NOTHING, NoMemory, Row, Value};
 use row_cursor::BlockCursor;
 use row_pieces::Rows;

@@ -19,8 +19,8 @@ mod way;
 mod wide;
 mod worth;
 
+pub use aggregate_range::{End, Goal};
 pub use choice::end_of;
-pub use cqa_model::{End, Goal};
 pub use ends::{Ends, ends_of};
 pub use groups::{Group, groups_of};
 pub use range::{Range, named, range_of};

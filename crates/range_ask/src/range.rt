@@ -5,7 +5,8 @@ ghost use Rattle.range_ask.specs.Ranges.{IsRange};
 ghost use Rattle.table_blocks.specs.Tables.{names_in};
 
 use crate::choice::choose;
-use cqa_model::{End, Goal, RowId};
+use aggregate_range::{End, Goal};
+use cqa_model::RowId;
 use cqa_value::{Items, NoMemory};
 use std::alloc::Global;
 use table_blocks::{ColumnTest, Database};

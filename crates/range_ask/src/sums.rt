@@ -11,7 +11,7 @@ ghost use Rattle.range_ask.specs.Walking.{AreSides, IsNextBlock, IsWithinBlocks}
 
 use crate::wide::note;
 use crate::worth::worth;
-use cqa_model::Goal;
+use aggregate_range::Goal;
 use cqa_value::NoMemory;
 use row_blocks::same_key;
 use std::alloc::Global;

@@ -13,7 +13,7 @@ use crate::peak::{Peak, more_peak};
 use crate::total::{Total, Turn, more_total};
 use crate::way::Way;
 use crate::worth::added;
-use cqa_model::{End, Goal};
+use aggregate_range::{End, Goal};
 use cqa_value::{NoMemory, Row};
 use std::alloc::Global;
 

@@ -1,7 +1,7 @@
 -- What is known of the members of a group.
 use Rattle.std.proofs.Common.{◌<◌, ◌≤◌, List, [], length, Contains, subst, arith}
 use Rattle.cqa_value.specs.declared.value.Value.{Value}
-use Rattle.cqa_model.specs.declared.aggregate.End.TheVariants.{Number}
+use Rattle.aggregate_range.specs.declared.aggregate.End.TheVariants.{Number}
 use Rattle.cqa_model.specs.Database.{stored}
 use Rattle.cqa_model.specs.Query.{atom_at, rows_of}
 use Rattle.join_access.specs.Listing.{names_of, AreAllNames}

@@ -2,7 +2,7 @@
 use Rattle.std.proofs.Common.{◌≡◌, ℕ, ◌<◌, ◌==◌, cond, List, length, map, Contains, refl, sym, ◌∙◌, ap}
 use Rattle.std.specs.Prelude.{ℤ, pos}
 use Rattle.cqa_value.specs.declared.value.Value.{Value}
-use Rattle.cqa_model.specs.declared.aggregate.End.TheVariants.{Number}
+use Rattle.aggregate_range.specs.declared.aggregate.End.TheVariants.{Number}
 use Rattle.cqa_model.specs.declared.query.ColRef.{ColRef}
 use Rattle.cqa_model.specs.declared.query.Query.{Query}
 use Rattle.cqa_model.specs.declared.query.RowId.{RowId}

@@ -2,7 +2,7 @@
 use Rattle.std.proofs.Common.{◌≡◌, ℕ, ◌<◌, Bool, List, length, map, Option, Some, None, Contains, refl, sym, ◌∙◌, ap, subst}
 use Rattle.std.specs.Prelude.{nat_lt}
 use Rattle.cqa_value.specs.declared.value.Value.{Value}
-use Rattle.cqa_model.specs.declared.aggregate.End.TheVariants.{Empty}
+use Rattle.aggregate_range.specs.declared.aggregate.End.TheVariants.{Empty}
 use Rattle.cqa_model.specs.Database.{Table}
 use Rattle.table_blocks.specs.Tables.{rows_at}
 use Rattle.cqa_value.proofs.Words.{all_zip_right}

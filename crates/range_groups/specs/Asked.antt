@@ -1,7 +1,7 @@
 -- What is asked of groups, and both ends of one.
 use Rattle.std.specs.Prelude.{◌≡◌, ◌<◌, List, [], length, map, Contains}
 use Rattle.cqa_value.specs.declared.value.Value.{Value}
-use Rattle.cqa_model.specs.declared.aggregate.End.{End}
+use Rattle.aggregate_range.specs.declared.aggregate.End.{End}
 use Rattle.cqa_model.specs.declared.query.Query.{Query}
 use Rattle.cqa_model.specs.Database.{Table}
 use Rattle.cqa_model.specs.Query.{atom_at}

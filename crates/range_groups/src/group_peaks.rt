@@ -15,7 +15,7 @@ use crate::ask::GroupAsk;
 use crate::members::Member;
 use crate::surest::surest_of;
 use crate::touched::{Carrier, find_carriers, furthest_of};
-use cqa_model::End;
+use aggregate_range::End;
 use cqa_value::{NoMemory, Row};
 use range_ask::end_of;
 use range_join::{Extreme, Look, Span};

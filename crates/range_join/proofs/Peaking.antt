@@ -11,8 +11,8 @@ use Rattle.std.specs.Ordering.{is_lt, ordering_reverse}
 use Rattle.cqa_value.specs.declared.value.Value.{Value}
 use Rattle.cqa_value.specs.Values.{value_cmp, value_cmp_total}
 use Rattle.cqa_value.proofs.Words.{all_zip_right, cases_next, clash}
-use Rattle.cqa_model.specs.declared.aggregate.End.{End}
-use Rattle.cqa_model.specs.declared.aggregate.End.TheVariants.{Empty, Number, Held}
+use Rattle.aggregate_range.specs.declared.aggregate.End.{End}
+use Rattle.aggregate_range.specs.declared.aggregate.End.TheVariants.{Empty, Number, Held}
 use Rattle.join_access.proofs.Naming.{zip-left}
 use Rattle.range_ask.specs.Ranges.{IsUpTo}
 use Rattle.range_ask.specs.Reaching.{as_end}

@@ -2,8 +2,8 @@
 use Rattle.std.proofs.Common.{◌≡◌, ℕ, ◌<◌, List, length, refl, sym, ◌∙◌, ap, subst, arith}
 use Rattle.std.specs.Prelude.{ℤ, ◌≤ℤ◌}
 use Rattle.std.proofs.lemmas.List.{length-map}
-use Rattle.cqa_model.specs.declared.aggregate.End.{End}
-use Rattle.cqa_model.specs.declared.aggregate.End.TheVariants.{Number}
+use Rattle.aggregate_range.specs.declared.aggregate.End.{End}
+use Rattle.aggregate_range.specs.declared.aggregate.End.TheVariants.{Number}
 use Rattle.cqa_value.specs.declared.value.Value.{Value}
 use Rattle.cqa_model.specs.declared.query.Query.{Query}
 use Rattle.cqa_model.specs.declared.query.RowId.{RowId}

@@ -2,7 +2,7 @@
 use Rattle.std.specs.Prelude.{◌≡◌, ℕ, List, ℤ, ◌≤ℤ◌}
 use Rattle.std.specs.List.{AllZip}
 use Rattle.cqa_model.specs.Database.{Table}
-use Rattle.cqa_model.specs.declared.aggregate.End.TheVariants.{Number}
+use Rattle.aggregate_range.specs.declared.aggregate.End.TheVariants.{Number}
 use Rattle.range_ask.specs.declared.range.Range.{Range}
 use Rattle.range_ask.specs.Picks.{IsInBlocks}
 use Rattle.range_join.specs.declared.spans.Span.{Span}

@@ -1,7 +1,7 @@
 -- What is asked where a least or a greatest value is looked for, and its range.
 use Rattle.std.specs.Prelude.{◌≡◌, ℕ}
-use Rattle.cqa_model.specs.declared.aggregate.Goal.{Goal}
-use Rattle.cqa_model.specs.declared.aggregate.Goal.TheVariants.{Min, Max}
+use Rattle.aggregate_range.specs.declared.aggregate.Goal.{Goal}
+use Rattle.aggregate_range.specs.declared.aggregate.Goal.TheVariants.{Min, Max}
 use Rattle.range_ask.specs.declared.range.Range.{Range}
 use Rattle.range_join.specs.declared.carriers.Extreme.{Extreme}
 use Rattle.range_join.specs.declared.carriers.Extreme.TheVariants.{Least, Greatest}

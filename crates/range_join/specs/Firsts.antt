@@ -3,7 +3,7 @@ use Rattle.std.specs.Prelude.{◌≡◌, ℕ, Bool, true, false, ◌+◌, ◌<�
 use Rattle.std.specs.List.{AllZip}
 use Rattle.cqa_value.specs.declared.value.Value.{Value}
 use Rattle.cqa_model.specs.Database.{Table}
-use Rattle.row_cursor.specs.Blocks.{blocks_of}
+use Rattle.row_blocks.specs.Blocks.{blocks_of}
 use Rattle.table_blocks.specs.Tables.{rows_at, key_at}
 use Rattle.range_ask.specs.Picks.{IsInBlocks}
 use Rattle.range_join.specs.declared.spans.Span.{Span}

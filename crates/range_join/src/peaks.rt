@@ -10,7 +10,7 @@ ghost use Rattle.range_join.specs.Peaks.{end_places, best_at, lags, peak_from, r
 
 use crate::carriers::{Extreme, Look, carriers, further, lags};
 use crate::first_rows::firsts;
-use cqa_model::End;
+use aggregate_range::End;
 use cqa_value::{NoMemory, Row};
 use range_ask::end_of;
 use row_witnesses::RowWitnesses;

@@ -1,6 +1,6 @@
 //! What is asked of the witnesses of a query.
 
-use cqa_model::Goal;
+use aggregate_range::Goal;
 
 /// An aggregate over the witnesses of a query: how many there are, or the sum, the least or the greatest value of a
 /// column of the table of one of its atoms.

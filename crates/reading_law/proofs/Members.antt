@@ -5,7 +5,7 @@ use Rattle.std.specs.Option.{is_none}
 use Rattle.std.proofs.lemmas.Bool.{and_parts}
 use Rattle.cqa_value.specs.declared.value.Kind.TheVariants.{Int}
 use Rattle.cqa_value.specs.Values.{kind_of}
-use Rattle.cqa_model.specs.declared.aggregate.Goal.TheVariants as goals
+use Rattle.aggregate_range.specs.declared.aggregate.Goal.TheVariants as goals
 use Rattle.cqa_model.specs.declared.schema.Column.{Column}
 use Rattle.refusals.specs.declared.refusal.Refusal.{Refusal}
 use Rattle.refusals.specs.declared.refusal.Refusal.TheVariants.{BadKey, UnknownColumn}

@@ -5,7 +5,7 @@ use Rattle.cqa_value.specs.declared.value.Kind.{Kind}
 use Rattle.cqa_value.specs.declared.value.Kind.TheVariants as column_kinds
 use Rattle.cqa_value.specs.declared.value.Value.{Value}
 use Rattle.cqa_value.specs.declared.value.Value.TheVariants as values
-use Rattle.cqa_model.specs.Text.{kind_word}
+use Rattle.schema_text.specs.Text.{kind_word}
 use Rattle.cqa_model.specs.Valid.{IsName}
 use Rattle.cqa_model.specs.declared.query.Op.{Op}
 use Rattle.cqa_model.specs.declared.query.Op.TheVariants as ops

@@ -22,7 +22,7 @@ use Rattle.spj_syntax.specs.declared.tree.Select.{Select}
 use Rattle.reply_text.specs.declared.reply.Proof.{Proof}
 use Rattle.reply_text.specs.declared.reply.Reply.{Reply}
 use Rattle.reply_text.specs.declared.reply.Reply.TheVariants as replies
-use Rattle.weak_pairs.specs.Pairs.{IsPair}
+use Rattle.cqa_model.specs.Graph.{IsPair}
 use Rattle.session_state.specs.State.{State}
 use Rattle.session_state.specs.Replying.{Replies, IsReplyOutcome}
 use Rattle.query_replies.specs.Kept.{kept_line}

@@ -15,7 +15,7 @@ use Rattle.repair_back.specs.declared.reason.Reason.TheVariants as reasons
 use Rattle.repair_back.specs.declared.reason.Untold.{Untold}
 use Rattle.repair_back.specs.declared.reason.Untold.TheVariants as untold
 use Rattle.query_strategy.specs.Strategies.{NeedsSearch}
-use Rattle.repair_back.specs.Results.{AreStored}
+use Rattle.table_blocks.specs.Tables.{AreStored}
 use Rattle.repair_back.specs.Rejected.{AreRejectingRows}
 use Rattle.rows_against.specs.Against.{IsAgainst}
 use Rattle.spj_syntax.specs.declared.tree.Select.{Select}

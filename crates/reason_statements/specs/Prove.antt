@@ -12,7 +12,7 @@ use Rattle.cqa_model.specs.Certain.{IsCertain}
 use Rattle.cqa_model.specs.Plan.{IsPlanOf}
 use Rattle.refusals.specs.declared.refusal.Refusal.{Refusal}
 use Rattle.refusals.specs.declared.refusal.Refusal.TheVariants.{CertificateLimit}
-use Rattle.repair_back.specs.Results.{AreStored}
+use Rattle.table_blocks.specs.Tables.{AreStored}
 use Rattle.repair_back.specs.Rejected.{AreRejectingRows}
 use Rattle.rewrite_text.specs.Certificates.{HasLongCertificate, IsCertificate}
 use Rattle.spj_syntax.specs.declared.tree.Select.{Select}

@@ -18,11 +18,11 @@ use Rattle.repair_back.specs.declared.reason.Reason.TheVariants.{ByBlock, Reject
 use Rattle.repair_back.specs.declared.reason.Untold.{Untold}
 use Rattle.repair_back.specs.declared.reason.Untold.TheVariants.{Over, Spent}
 use Rattle.query_strategy.specs.Strategies.{HasNoPlan, NeedsSearch}
-use Rattle.repair_back.specs.Results.{AreStored}
+use Rattle.table_blocks.specs.Tables.{AreStored}
 use Rattle.repair_back.specs.Rejected.{AreRejectingRows}
 use Rattle.repair_clauses.specs.Encodings.{IsEncoded}
 use Rattle.search_answers.specs.Deciding.{IsDecided}
-use Rattle.weak_pairs.specs.Pairs.{IsPair}
+use Rattle.cqa_model.specs.Graph.{IsPair}
 
 -- a formula is the row's, and a log refutes it (Dixit and Kolaitis, SAT 2019)
 pub record IsRefuted (db : List Table) (q : Query) (row : List Value) (cnf : Cnf) (log : Log) : Type 0 where

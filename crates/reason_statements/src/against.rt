@@ -3,7 +3,7 @@
 ghost use Rattle.std.specs.Prelude.{◌≡◌, IfErr, IfOk, length, map};
 ghost use Rattle.cqa_model.specs.Query.{FitsDatabase};
 ghost use Rattle.join_access.specs.Listing.{HasTooMany, IsOver};
-ghost use Rattle.repair_back.specs.Results.{AreStored};
+ghost use Rattle.table_blocks.specs.Tables.{AreStored};
 ghost use Rattle.repair_back.specs.Rejected.{AreRejectingRows};
 ghost use Rattle.rows_against.specs.Against.{IsAgainst};
 ghost use Rattle.query_resolve.specs.Checks.{query_fault, answer_fault};

@@ -2,8 +2,8 @@
 
 ghost use Rattle.std.specs.Prelude.{◌≡◌, ◌<◌, ℕ, IfErr, IfOk, OnErr, Some, length, map};
 ghost use Rattle.cqa_model.specs.Query.{FitsDatabase};
-ghost use Rattle.repair_back.specs.Results.{AreStored};
-ghost use Rattle.weak_pairs.specs.Pairs.{IsPair};
+ghost use Rattle.table_blocks.specs.Tables.{AreStored};
+ghost use Rattle.cqa_model.specs.Graph.{IsPair};
 ghost use Rattle.query_strategy.specs.Strategies.{HasNoPlan};
 ghost use Rattle.query_resolve.specs.Checks.{query_fault, answer_fault};
 ghost use Rattle.reason_statements.specs.Reasons.{IsReason, IsStopped};

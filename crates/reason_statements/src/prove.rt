@@ -2,9 +2,8 @@
 
 ghost use Rattle.std.specs.Prelude.{◌≡◌, length};
 ghost use Rattle.cqa_model.specs.Certain.{IsCertain};
-ghost use Rattle.cqa_model.specs.Plan.{IsPlanOf};
+ghost use Rattle.cqa_model.specs.Plan.{IsPlanOf, IsExact};
 ghost use Rattle.cqa_model.specs.Query.{FitsDatabase};
-ghost use Rattle.fo_rewrite.specs.Planning.{IsExact};
 ghost use Rattle.query_resolve.specs.Checks.{query_fault, answer_fault};
 ghost use Rattle.session_state.specs.Replying.{Replies, IsReplyOutcome};
 ghost use Rattle.reason_statements.specs.Prove.{IsProofOutcome, MayProve, ProvesRow};

@@ -1,52 +1,19 @@
--- What a choice without a witness says of a row.
+-- What a choice of one row each block says of the rows that are kept.
 use Rattle.std.specs.Prelude.{IfOk, Result, Ok, Err}
-use Rattle.std.proofs.Common.{◌≡◌, ℕ, ◌<◌, ◌⊎◌, ◌↔◌, inl, inr, Bool, List, [], length, sym, ◌∙◌, subst, Contains}
+use Rattle.std.proofs.Common.{◌≡◌, ℕ, ◌<◌, ◌⊎◌, ◌↔◌, inl, inr, Bool, List, length, sym, ◌∙◌, subst, Contains}
 use Rattle.cqa_value.specs.declared.value.Value.{Value}
-use Rattle.cqa_model.specs.declared.query.Query.{Query}
 use Rattle.cqa_model.specs.declared.query.RowId.{RowId}
-use Rattle.cqa_model.specs.Database.{Table, stored}
-use Rattle.cqa_model.specs.Query.{atom_at, rows_of, row_at, IsWitness, FitsDatabase}
-use Rattle.cqa_model.specs.Certain.{IsCertain}
-use Rattle.cqa_model.proofs.Classic.{mem-nil}
-use Rattle.repair_back.specs.Flags.{IsFlagged, kept_tables, flags_at, tables_in, AreTablesOf, AreBlank, AreLong, AreRepairFlags, AreTableFlags}
-use Rattle.repair_back.specs.Mending.{HasNone}
+use Rattle.cqa_model.specs.Database.{Table}
 use Rattle.cqa_model.specs.Blocks.{IsPick}
-use Rattle.repair_back.specs.Results.{names_kept, IsRepairOver, Rejects, IsTrueName, AreTablePicks}
-use Rattle.repair_back.proofs.Keeping.{ShownOver, shown-over}
-use Rattle.repair_back.proofs.Naming.{kept-named, kept-of, name-flagged}
-use Rattle.repair_back.proofs.Starting.{table-in, query-tables, table-flags}
+use Rattle.repair_back.specs.Flags.{IsFlagged, flags_at, AreTablesOf, AreBlank, AreLong, AreTableFlags}
+use Rattle.repair_back.specs.Results.{names_kept, IsRepairOver, IsTrueName, AreTablePicks}
+use Rattle.repair_back.proofs.Keeping.{shown-over}
+use Rattle.repair_back.proofs.Naming.{kept-named, name-flagged}
 use Rattle.table_blocks.specs.Tables.{rows_at, key_at}
 
 module _ (db : List Table) (tables : List ℕ) (are : AreTablesOf db tables) (flags : List (List Bool)) (chosen : AreTableFlags db tables flags) where
   pub named-repair : IsRepairOver db tables (names_kept tables flags)
   named-repair = let s = shown-over db tables are flags chosen in (s.0, s.1, kept-named db tables flags chosen s.0 s.2)
-
-module _ (q : Query) (db : List Table) (fits : FitsDatabase q db) (flags : List (List Bool)) (chosen : AreRepairFlags q db flags) where
-  chosen_tables : AreTableFlags db (tables_in q) flags
-  chosen_tables = table-flags q db fits flags chosen
-
-  showing : ShownOver db (tables_in q) (query-tables q db fits) flags chosen_tables
-  showing = shown-over db (tables_in q) (query-tables q db fits) flags chosen_tables
-
-  same-atom : (F : ℕ) → F < length q.atoms → rows_of q showing.0 F ≡ rows_of q (kept_tables (stored db) flags) F
-  same-atom F l = showing.2 (atom_at q F).table (table-in q db fits F l)
-
-  module _ (row : List Value) (none : HasNone db q row [] flags) where
-    kept-none : (r : List (List (List Value))) → ((F : ℕ) → F < length q.atoms → rows_of q r F ≡ rows_of q (kept_tables (stored db) flags) F) → (w : List (List Value)) → IsWitness q r row w → ⊥
-    kept-none r same w h = none w (record {
-      size = h.size;
-      keeps = λ F l. subst (λ rows. Contains rows (row_at w F)) (same F l) (h.kept F l);
-      holds = h.holds;
-      answers = h.answers;
-      extends = λ t m. absurd (mem-nil t m);
-    })
-
-    pub named-rejects : Rejects q db row (names_kept (tables_in q) flags)
-    named-rejects =
-        (showing.0, showing.1, kept-of q db fits (names_kept (tables_in q) flags) showing.0 (kept-named db (tables_in q) flags chosen_tables showing.0 showing.2), kept-none showing.0 same-atom)
-
-    pub not-certain : IsCertain db q row → ⊥
-    not-certain certain = let w = certain showing.0 showing.1 in kept-none showing.0 same-atom w.0 w.1
 
 -- a pick by one property is one by another that says the same of the rows
 pick-same : (key : List ℕ) (rows : List (List Value)) (P Q : ℕ → Type 0) → ((i : ℕ) → i < length rows → P i ↔ Q i) → (p : ℕ) → IsPick key rows P p → IsPick key rows Q p

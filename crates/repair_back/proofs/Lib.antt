@@ -1,15 +1,10 @@
-mod Apart
-mod Choosing
-mod Keeping
-mod Stepping
-mod BlockEnds
-mod Mended
-mod Looking
+pub mod Choosing
+pub mod Keeping
+pub mod BlockEnds
 mod Settling
 pub mod Naming
 mod Answering
 mod Beside
 mod Marking
-mod Starting
-mod Outcomes
+pub mod Starting
 mod Stored

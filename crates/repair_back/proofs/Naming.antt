@@ -14,12 +14,12 @@ use Rattle.cqa_model.specs.Query.{atom_at, rows_of, FitsDatabase}
 use Rattle.cqa_model.proofs.Classic.{mem-head, mem-tail, mem-nil, mem-cases}
 use Rattle.cqa_model.specs.Blocks.{IsPick}
 use Rattle.repair_back.specs.Flags.{IsFlagged, kept_of, kept_tables, flags_at, tables_in, places_from, AreTablesOf, AreTableFlags}
-use Rattle.repair_back.specs.Results.{names_kept, AreKept, AreKeptOver, AreStored, IsRepairOf, IsRepairOver, ArePicks, AreTablePicks, IsTrueName}
+use Rattle.repair_back.specs.Results.{names_kept, AreKept, AreKeptOver, IsRepairOf, IsRepairOver, ArePicks, AreTablePicks, IsTrueName}
+use Rattle.table_blocks.specs.Tables.{AreStored, rows_at, rows_in, names_in}
 use Rattle.repair_back.proofs.Keeping.{kept-table}
 use Rattle.repair_back.proofs.Starting.{table-in}
 use Rattle.std.proofs.lemmas.List.Elements.{Contains-append_cases}
 use Rattle.repair_back.proofs.Choosing.{flag-there}
-use Rattle.table_blocks.specs.Tables.{rows_at, rows_in, names_in}
 
 -- one flag more
 places-more : (n : ℕ) (bs : List Bool) (b : Bool) → places_from n (bs ++ b ∷ []) ≡ places_from n bs ++ cond b ((n + length bs) ∷ []) []

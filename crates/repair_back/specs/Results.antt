@@ -75,7 +75,3 @@ is_contested_in db name = is_contested (slice_index_or (keys_of db) name.table [
 -- the names of rows whose blocks have another row
 abbrev pub contested_of : List Table → List RowId → List RowId
 contested_of db names = filter (is_contested_in db) names
-
--- the names are those of stored rows
-abbrev pub AreStored : List Table → List RowId → Type 0
-AreStored db names = (name : RowId) → Contains names name → (name.table < length db) × (name.place < length (slice_index_or (stored db) name.table []))

@@ -9,7 +9,7 @@ ghost use Rattle.repair_back.specs.Walking.{BeginsBlock, IsBlockBetween};
 use row_pieces::Rows;
 
 /// The place behind the block that begins at a place.
-pub(crate) fn block_end(rows: &Rows<'_>, key: &[u32], at: usize) -> usize
+pub fn block_end(rows: &Rows<'_>, key: &[u32], at: usize) -> usize
     requires order { IsStrictlySortedBy (block_cmp key.now) rows.now }
     requires there { at < length rows.now }
     requires begins { BeginsBlock key.now rows.now at }
@@ -20,7 +20,7 @@ pub(crate) fn block_end(rows: &Rows<'_>, key: &[u32], at: usize) -> usize
 }
 
 /// The place of the first row of the block of the row at a place.
-pub(crate) fn block_start(rows: &Rows<'_>, key: &[u32], at: usize) -> usize
+pub fn block_start(rows: &Rows<'_>, key: &[u32], at: usize) -> usize
     requires order { IsStrictlySortedBy (block_cmp key.now) rows.now }
     requires there { at < length rows.now }
     ensures before { result ≤ at }

@@ -14,7 +14,7 @@ use std::marker::Model;
 
 /// A flag for each row of a table, by the rows' places.
 #[derive(Drop)]
-pub(crate) struct Choice {
+pub struct Choice {
     flags: Vec<bool>,
 }
 
@@ -32,7 +32,7 @@ impl Choice {
     /// # Errors
     ///
     /// `NoMemory` where memory is refused.
-    pub(crate) fn blank(alloc: Global, count: usize) -> Result<Choice, NoMemory>
+    pub fn blank(alloc: Global, count: usize) -> Result<Choice, NoMemory>
         ensures { IfOk result (λ choice. choice ≡ replicate count false) }
     {
         Ok(Choice {
@@ -41,7 +41,7 @@ impl Choice {
     }
 
     /// Whether the flag at a place is set.
-    pub(crate) fn has(&self, place: usize) -> bool
+    pub fn has(&self, place: usize) -> bool
         requires { place < length self.now }
         ensures { result ≡ slice_index_or self.now place false }
     {
@@ -49,7 +49,7 @@ impl Choice {
     }
 
     /// Sets the flag at a place, if there is one.
-    pub(crate) fn set(&mut self, place: usize)
+    pub fn set(&mut self, place: usize)
         ensures size { length self.new ≡ length self.old }
         ensures is { (p : ℕ) → IsFlagged self.new p ↔ (IsFlagged self.old p ⊎ ((p ≡ place) × (p < length self.old))) }
     {
@@ -59,7 +59,7 @@ impl Choice {
     }
 
     /// The place of the row that is kept among those from one place to another.
-    pub(crate) fn kept_in(&self, start: usize, end: usize) -> usize
+    pub fn kept_in(&self, start: usize, end: usize) -> usize
         requires some { (p : ℕ) × (start ≤ p) × (p < end) × IsFlagged self.now p }
         ensures after { start ≤ result }
         ensures before { result < end }
@@ -73,7 +73,7 @@ impl Choice {
     }
 
     /// Keeps another row of a block.
-    pub(crate) fn exchange(&mut self, out: usize, into: usize)
+    pub fn exchange(&mut self, out: usize, into: usize)
         requires out { out < length self.old }
         requires into { into < length self.old }
         ensures size { length self.new ≡ length self.old }
@@ -116,7 +116,7 @@ impl Choice {
     }
 
     /// Keeps of each block the first row whose flag is set, or else the first row.
-    pub(crate) fn settle(&mut self, rows: &Rows<'_>, key: &[u32])
+    pub fn settle(&mut self, rows: &Rows<'_>, key: &[u32])
         requires order { IsStrictlySortedBy (block_cmp key.now) rows.now }
         requires size { length self.old ≡ length rows.now }
         ensures choice { HasOneFlagEach key.now rows.now self.new }

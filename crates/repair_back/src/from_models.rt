@@ -3,7 +3,8 @@
 ghost use Rattle.std.specs.Prelude.{◌≡◌, ◌<◌, ◌⊎◌, ◌↔◌, ℕ, [], IfOk, length, slice_index_or, Contains};
 ghost use Rattle.cqa_model.specs.declared.query.RowId.{RowId as Name};
 ghost use Rattle.repair_back.specs.Flags.{IsFlagged, AreTablesOf, AreBlank};
-ghost use Rattle.repair_back.specs.Results.{IsTrueName, IsRepairOf, IsRepairOver, ArePicks, AreTablePicks, AreStored};
+ghost use Rattle.repair_back.specs.Results.{IsTrueName, IsRepairOf, IsRepairOver, ArePicks, AreTablePicks};
+ghost use Rattle.table_blocks.specs.Tables.{AreStored};
 
 use crate::atoms::tables_of;
 use crate::choice::Choice;

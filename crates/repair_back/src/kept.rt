@@ -43,7 +43,7 @@ fn add_blank(
 /// # Errors
 ///
 /// `NoMemory` where memory is refused.
-pub(crate) fn blank(alloc: Global, db: &Database, tables: &[u32]) -> Result<Vec<Choice>, NoMemory>
+pub fn blank(alloc: Global, db: &Database, tables: &[u32]) -> Result<Vec<Choice>, NoMemory>
     ensures { IfOk result (λ kept. AreBlank db.now tables.now kept.items) }
 {
     let mut kept = Vec::new(alloc);
@@ -57,7 +57,7 @@ pub(crate) fn blank(alloc: Global, db: &Database, tables: &[u32]) -> Result<Vec<
 }
 
 /// Keeps of each block of some tables the first row whose flag is set, or else the first row.
-pub(crate) fn settle_all(db: &Database, tables: &[u32], kept: &mut [Choice])
+pub fn settle_all(db: &Database, tables: &[u32], kept: &mut [Choice])
     requires tables { AreTablesOf db.now tables.now }
     requires long { AreLong db.now tables.now kept.old }
     ensures chosen { AreTableFlags db.now tables.now kept.new }

@@ -63,7 +63,7 @@ fn add_all(
 /// # Errors
 ///
 /// `NoMemory` where memory is refused.
-pub(crate) fn named(
+pub fn named(
     alloc: Global,
     db: &Database,
     tables: &[u32],

@@ -4,7 +4,8 @@ ghost use Rattle.std.specs.Prelude.{◌≡◌, ◌<◌, ◌+◌, ◌↔◌, IsTr
 ghost use Rattle.std.specs.List.Sorted.{IsStrictlySortedBy};
 ghost use Rattle.cqa_model.specs.Database.{stored, block_cmp};
 ghost use Rattle.cqa_model.specs.Repairs.{SharesKey};
-ghost use Rattle.repair_back.specs.Results.{is_contested, is_contested_in, contested_of, AreStored};
+ghost use Rattle.repair_back.specs.Results.{is_contested, is_contested_in, contested_of};
+ghost use Rattle.table_blocks.specs.Tables.{AreStored};
 
 use crate::repair::Repair;
 use cqa_model::RowId;

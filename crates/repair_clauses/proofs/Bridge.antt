@@ -29,7 +29,7 @@ use Rattle.row_lists.specs.declared.formula.Encoded.{Encoded}
 use Rattle.row_lists.specs.Encodings.{IsListEncoded}
 use Rattle.row_lists.specs.Clauses.{Variable, HasNumber, AreAllLists, Formula}
 use Rattle.row_lists.specs.Spans.{at}
-use Rattle.row_lists.specs.Lists.{name, named, IsStored, IsOfBlock, AreStored}
+use Rattle.row_lists.specs.Lists.{name, named, IsStored, IsOfBlock, AreStoredLists}
 use Rattle.row_lists.specs.Formulas.{IsFrame, IsBlock, IsRelevantTo, AreWithin, AreNumbersOf, IsFormulaOf, name_in, table_at}
 use Rattle.row_lists.proofs.Making.{witness-names}
 use Rattle.row_lists.proofs.Naming.{named-id, named-at, named-place}
@@ -276,7 +276,7 @@ module _ (q : Query) (db : List Table) (fits : FitsDatabase q db) (row : List Va
       let k = named-place db q.atoms names a.0 a.2 id i in
       (k.0, in_frame q db fits k.0 k.1, table_of q db fits k.0 k.1 ∙ sym k.2)
 
-  pub lists_stored : AreStored db all
+  pub lists_stored : AreStoredLists db all
   lists_stored id (names, m, i) =
       let a = (h.exactly names).0 m in
       let k = named-place db q.atoms names a.0 a.2 id i in

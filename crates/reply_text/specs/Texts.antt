@@ -6,7 +6,7 @@ use Rattle.cqa_value.specs.Literals.{literal_bytes, row_bytes}
 use Rattle.cqa_value.specs.declared.value.Value.{Value}
 use Rattle.cnf_form.specs.Writing.{proof_bytes}
 use Rattle.lrat_check.specs.Writing.{log_bytes}
-use Rattle.cqa_model.specs.Text.{schema_bytes}
+use Rattle.schema_text.specs.Text.{schema_bytes}
 use Rattle.refusals.specs.declared.refusal.Refusal.{Refusal}
 use Rattle.refusals.specs.declared.refusal.Refusal.TheVariants.{BadByte, Syntax, StatementTooLong, UnknownTable, TableExists, UnknownColumn, AmbiguousColumn, SelfJoin, TypeMismatch, WrongArity, DuplicateColumn, BadKey, OutOfRange, TextTooLong, Unfinished, Limit, WitnessLimit, Spent, BadCsv, KeyTaken, KeyBroken, CertificateLimit, NotStrict}
 use Rattle.refusals.specs.declared.refusal.Place.{Place}
@@ -15,10 +15,10 @@ use Rattle.refusals.specs.declared.refusal.LimitKind.{LimitKind}
 use Rattle.refusals.specs.declared.refusal.LimitKind.TheVariants.{Name as NameLimit, Tables as TablesLimit, Columns as ColumnsLimit, Atoms as AtomsLimit, Answer as AnswerLimit, Rows as RowsLimit, Selects as SelectsLimit}
 use Rattle.cqa_value.specs.declared.row.TheConstants.{MOST_COLUMNS}
 use Rattle.cqa_model.specs.declared.limits.TheConstants.{LONGEST_NAME, MOST_TABLES, MOST_ATOMS, MOST_ANSWER_COLUMNS, MOST_ROWS, MOST_SELECTS}
-use Rattle.cqa_model.specs.declared.class.Class.{Class}
-use Rattle.cqa_model.specs.declared.class.Class.TheVariants.{FirstOrder, Polynomial, CoNp}
-use Rattle.cqa_model.specs.declared.aggregate.End.{End}
-use Rattle.cqa_model.specs.declared.aggregate.End.TheVariants.{Empty, Number, Held}
+use Rattle.complexity_class.specs.declared.class.Class.{Class}
+use Rattle.complexity_class.specs.declared.class.Class.TheVariants.{FirstOrder, Polynomial, CoNp}
+use Rattle.aggregate_range.specs.declared.aggregate.End.{End}
+use Rattle.aggregate_range.specs.declared.aggregate.End.TheVariants.{Empty, Number, Held}
 use Rattle.reply_text.specs.declared.reply.AttackLine.{AttackLine}
 use Rattle.reply_text.specs.declared.reply.GroupEnds.{GroupEnds}
 use Rattle.reply_text.specs.declared.reply.PartClass.{PartClass}

@@ -6,7 +6,7 @@ ghost use Rattle.reply_text.specs.Texts.{attack_text, class_text, classified_tex
 
 use crate::AttackLine;
 use crate::append::{append_named, append_words};
-use cqa_model::Class;
+use complexity_class::Class;
 use cqa_value::NoMemory;
 
 /// Appends the class of a query, and a line for each attack.

@@ -6,7 +6,7 @@ ghost use Rattle.reply_text.specs.Texts.{end_text, group_text, groups_text, kept
 use crate::append::{append_counted, append_signed, append_words};
 use crate::explained::append_kept_rows;
 use crate::{GroupEnds, KeptRow};
-use cqa_model::End;
+use aggregate_range::End;
 use cqa_value::{NoMemory, literal_text};
 
 /// Appends the least and the greatest value, each with a line for each row that a repair which has it keeps.

@@ -2,8 +2,10 @@
 
 ghost use Rattle.std.specs.Prelude.{◌≡◌, IfOk};
 
+use aggregate_range::End;
 use cnf_form::{Cnf, Log};
-use cqa_model::{Class, End, Schema};
+use complexity_class::Class;
+use cqa_model::Schema;
 use cqa_value::{Items, Name, NoMemory, Row, Value};
 use refusals::Refusal;
 use std::alloc::Global;

@@ -13,8 +13,8 @@ use crate::ranged::{append_groups, append_range};
 use crate::refused::append_refusal;
 use crate::united::{append_classified_parts, append_shares, append_union};
 use crate::{Reply, TableLine};
-use cqa_model::schema_text;
 use cqa_value::{NoMemory, Row, row_text};
+use schema_text::schema_text;
 use std::alloc::Global;
 
 /// The text of a reply: its lines, each with a line feed at its end.

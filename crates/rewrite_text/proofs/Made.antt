@@ -19,7 +19,7 @@ use Rattle.cqa_model.proofs.Decisions.{dec_fits, dec_plan}
 use Rattle.cqa_model.proofs.BlockOrder.{block_total, key-from_shares}
 use Rattle.cqa_model.proofs.Elimination.{plan-eliminates}
 use Rattle.cqa_model.specs.Variables.{whole}
-use Rattle.fo_rewrite.proofs.Distinct.{plan-distinct, plan-atoms, plan-all}
+use Rattle.cqa_model.proofs.PlanAtoms.{plan-distinct, plan-atoms, plan-all}
 use Rattle.block_tree.specs.declared.node.Node.{Node}
 use Rattle.block_tree.specs.Trees.{IsBlockOf, IsTree, ListAlike, listing, first_row}
 use Rattle.block_tree.proofs.Zips.{zip_weaker}

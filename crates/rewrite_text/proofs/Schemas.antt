@@ -10,7 +10,7 @@ use Rattle.cqa_model.specs.Database.{Table}
 use Rattle.cqa_model.specs.Query.{atom_at, FitsDatabase}
 use Rattle.cqa_value.specs.declared.value.Kind.TheVariants.{Int}
 use Rattle.cqa_model.specs.Shape.{IsInRange}
-use Rattle.cqa_model.specs.Text.{schema_bytes}
+use Rattle.schema_text.specs.Text.{schema_bytes}
 use Rattle.cqa_model.proofs.Places.{map-at, kinds-at}
 use Rattle.csv_rows.specs.Dumps.{create_words}
 use Rattle.rewrite_text.specs.Texts.{name_at, column_name_at, qualified_name, certificate_create}

@@ -13,7 +13,7 @@ use Rattle.cqa_model.specs.declared.query.Query.{Query}
 use Rattle.cqa_model.specs.Database.{Table, names_of}
 use Rattle.cqa_model.specs.Query.{atom_at}
 use Rattle.cqa_model.specs.Shape.{column_at}
-use Rattle.cqa_model.specs.Text.{schema_bytes}
+use Rattle.schema_text.specs.Text.{schema_bytes}
 use Rattle.csv_rows.specs.Dumps.{create_words}
 use Rattle.block_tree.specs.declared.node.Node.{Node}
 

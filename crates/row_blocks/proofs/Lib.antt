@@ -1,1 +1,3 @@
 pub mod BlockEnds
+pub mod Parting
+pub mod BlockLists

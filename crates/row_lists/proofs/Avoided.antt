@@ -8,12 +8,12 @@ use Rattle.cqa_model.proofs.Classic.{dec_both}
 use Rattle.cqa_model.proofs.Values.{dec_by, dec_not}
 use Rattle.cqa_model.proofs.Repairs.{dec_shares}
 use Rattle.table_blocks.specs.Tables.{rows_at, key_at}
-use Rattle.row_lists.specs.Lists.{name, named, IsStored, IsIn, AreStored, IsOfBlock, HasFree, SatisfiesNames}
+use Rattle.row_lists.specs.Lists.{name, named, IsStored, IsIn, AreStoredLists, IsOfBlock, HasFree, SatisfiesNames}
 use Rattle.row_lists.specs.Laws.{AvoidedByFree}
 use Rattle.row_lists.proofs.Words.{dec_in, block-self}
 use Rattle.row_lists.proofs.Lists.{names_decide}
 
-module _ (db : List Table) (lists : List (List RowId)) (st : AreStored db lists) where
+module _ (db : List Table) (lists : List (List RowId)) (st : AreStoredLists db lists) where
   dec_free : (id : RowId) → Dec (HasFree db lists id)
   dec_free id = dec_by (λ h. record { free = h.0; there = h.1; shares = h.2.0; apart = h.2.1 }) (λ h. (h.free, h.there, (h.shares, h.apart)))
       (dec_one_below (λ p. SharesKey (key_at db id.table) (named db id) (named db (name id.table p)) × (IsIn lists (name id.table p) → ⊥))

@@ -15,7 +15,7 @@ use Rattle.table_blocks.specs.Tables.{rows_at, key_at}
 use Rattle.join_access.proofs.Naming.{same-name}
 use Rattle.row_lists.specs.declared.span.Span.{Span}
 use Rattle.row_lists.specs.Clauses.{Variable, AreAllLists}
-use Rattle.row_lists.specs.Lists.{name, named, IsIn, IsStored, AreStored}
+use Rattle.row_lists.specs.Lists.{name, named, IsIn, IsStored, AreStoredLists}
 use Rattle.row_lists.specs.Formulas.{table_at, name_in, IsFrame, IsRelevantTo, AreVariables, IsBlock}
 use Rattle.row_lists.specs.Frames.{AreTablePlaces}
 use Rattle.row_lists.specs.Encodings.{IsListSpan, AreListSpansTo}
@@ -46,7 +46,7 @@ module _ (db : List Table) (frame : List ℕ) (lists : List (List RowId)) where
   }
 
   -- the places of a table are those of rows
-  pub are_places : AreStored db lists → (table : ℕ) (places : List ℕ) → AreTablePlaces lists table places → AreRowPlaces (rows_at db table) places
+  pub are_places : AreStoredLists db lists → (table : ℕ) (places : List ℕ) → AreTablePlaces lists table places → AreRowPlaces (rows_at db table) places
   are_places stored table places h = record {
     in_order = h.in_order;
     there = λ i l. (stored (name table (get_or places i 0)) ((h.exactly (get_or places i 0)).0 (Contains-get_or places i 0 l))).1;

@@ -11,12 +11,13 @@ use Rattle.cqa_model.proofs.Classic.{dec_some, dec_if, find_below, find_in}
 use Rattle.cqa_model.proofs.Repairs.{dec_shares}
 use Rattle.table_blocks.specs.Tables.{rows_at, key_at}
 use Rattle.join_access.proofs.Naming.{same-name}
-use Rattle.row_lists.specs.Lists.{name, named, IsStored, IsIn, AreStored, IsOfBlock, SatisfiesNames}
+use Rattle.row_lists.specs.Lists.{name, named, IsStored, IsIn, AreStoredLists, IsOfBlock, SatisfiesNames}
 use Rattle.row_lists.specs.Classes.{AreAlikeBy, AreClosed, AreClasses, IsCovered, SatisfiesClasses}
 use Rattle.row_lists.specs.Laws.{ClassesOfNames}
-use Rattle.row_lists.proofs.Words.{dec_in, zip-choose, zip-weaker}
+use Rattle.row_lists.proofs.Words.{dec_in}
+use Rattle.cqa_model.proofs.Zips.{zip-choose, zip-weaker}
 
-module _ (db : List Table) (columns : ℕ → List ℕ) (lists : List (List RowId)) (class : RowId → ℕ) (st : AreStored db lists) (closed : AreClosed db columns lists) (same : AreClasses db columns lists class) where
+module _ (db : List Table) (columns : ℕ → List ℕ) (lists : List (List RowId)) (class : RowId → ℕ) (st : AreStoredLists db lists) (closed : AreClosed db columns lists) (same : AreClasses db columns lists class) where
   -- from classes to names: a row of a list is as its class, and any other is true
   abbrev unless_in : {A : Type 0} → Dec A → Bool → Bool
   unless_in (yes p) b = b

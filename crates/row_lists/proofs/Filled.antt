@@ -14,7 +14,7 @@ use Rattle.cqa_value.proofs.Words.{all_zip_push}
 use Rattle.join_access.proofs.Naming.{same-name}
 use Rattle.row_lists.specs.declared.span.Span.{Span}
 use Rattle.row_lists.specs.Clauses.{HasNumber, negative}
-use Rattle.row_lists.specs.Lists.{IsIn, IsStored, AreStored}
+use Rattle.row_lists.specs.Lists.{IsIn, IsStored, AreStoredLists}
 use Rattle.row_lists.specs.Formulas.{name_in, IsRelevantTo, HasNumberOf, AreNumbersOf}
 use Rattle.row_lists.specs.Frames.{AreSlots, AreInFrame}
 use Rattle.row_lists.specs.Spans.{at, HasSpan, IsInSpan, variables_of_spans}
@@ -28,7 +28,7 @@ use Rattle.row_lists.proofs.Formulas.{same-variable}
 
 -- ---- the number of a name
 
-module _ (db : List Table) (frame slots : List ℕ) (lists : List (List RowId)) (kept : AreSlots frame slots) (within : AreInFrame frame slots lists) (stored : AreStored db lists)
+module _ (db : List Table) (frame slots : List ℕ) (lists : List (List RowId)) (kept : AreSlots frame slots) (within : AreInFrame frame slots lists) (stored : AreStoredLists db lists)
     (m : ℕ) (spans : List Span) (h : AreListSpansTo db frame lists (length frame) m spans) (id : RowId) (i : IsIn lists id) where
   -- the slot of the name's table
   abbrev pub slot_of : ℕ

@@ -20,17 +20,18 @@ use Rattle.row_lists.specs.Clauses.{Variable, variable_cmp, HasNumber, AreAllLis
 use Rattle.row_lists.proofs.Numbers.{passing, passing-has, passing-holds, passing-rises}
 use Rattle.row_lists.proofs.Rows.{numbered, number_below, number_of, dec_number, variable_total}
 use Rattle.row_lists.proofs.Order.{one_list, same_number, rises_of}
-use Rattle.row_lists.specs.Lists.{named, IsStored, KeepsAll, IsIn, AreStored, IsOfBlock, SatisfiesNames}
+use Rattle.row_lists.specs.Lists.{named, IsStored, KeepsAll, IsIn, AreStoredLists, IsOfBlock, SatisfiesNames}
 use Rattle.row_lists.specs.Formulas.{table_at, IsFrame, AreWithin, name_in, IsRelevantTo, HasNumberOf, IsBlockOf, IsBlock, AreNumbersOf, IsFormulaOf}
 use Rattle.row_lists.specs.Picks.{IsTrueName, AreTruePicks}
 use Rattle.row_lists.specs.Laws.{FormulaOfNames, ListsDecide, OneListFormula, ListClausesRise, PicksRejectLists}
-use Rattle.row_lists.proofs.Words.{name_discrete, block-self, block-sym, block-trans, zip-one}
+use Rattle.row_lists.proofs.Words.{name_discrete, block-self, block-sym, block-trans}
+use Rattle.cqa_model.proofs.Zips.{zip-one}
 use Rattle.row_lists.proofs.Lists.{names_decide}
 
 pub same-variable : (x y : Variable) → x.slot ≡ y.slot → x.place ≡ y.place → x ≡ y
 same-variable x y a p = λ i. record { slot = a i; place = p i }
 
-module _ (db : List Table) (frame : List ℕ) (lists : List (List RowId)) (f : Formula) (fr : IsFrame db frame) (w : AreWithin frame lists) (st : AreStored db lists) (h : IsFormulaOf db frame lists f) where
+module _ (db : List Table) (frame : List ℕ) (lists : List (List RowId)) (f : Formula) (fr : IsFrame db frame) (w : AreWithin frame lists) (st : AreStoredLists db lists) (h : IsFormulaOf db frame lists f) where
   abbrev vars : List Variable
   vars = f.variables
 

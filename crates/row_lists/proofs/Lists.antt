@@ -16,10 +16,10 @@ use Rattle.cqa_model.proofs.Preferring.{preferring}
 use Rattle.table_blocks.specs.Tables.{rows_at, key_at}
 use Rattle.join_access.proofs.Naming.{stand-once, same-name}
 use Rattle.row_lists.proofs.Numbers.{place_of}
-use Rattle.row_lists.specs.Lists.{name, named, IsStored, KeepsAll, IsForced, IsIn, AreStored, IsOfBlock, SatisfiesNames}
+use Rattle.row_lists.specs.Lists.{name, named, IsStored, KeepsAll, IsForced, IsIn, AreStoredLists, IsOfBlock, SatisfiesNames}
 use Rattle.row_lists.specs.Laws.{NamesDecide}
 
-module _ (db : List Table) (lists : List (List RowId)) (d : IsDatabase db) (st : AreStored db lists) where
+module _ (db : List Table) (lists : List (List RowId)) (d : IsDatabase db) (st : AreStoredLists db lists) where
   -- a table of a name is one that a repair repairs
   within : (t : ℕ) → t < length db → t < length (stored db)
   within t l = subst (λ n. t < n) (sym (length-map db (λ (table : Table). table.rows))) l

@@ -4,7 +4,7 @@ ghost use Rattle.std.specs.Prelude.{◌≡◌, IfOk, length};
 ghost use Rattle.cqa_model.specs.Database.{IsDatabase};
 ghost use Rattle.join_access.specs.Listing.{names_of};
 ghost use Rattle.table_blocks.specs.Once.{database_once};
-ghost use Rattle.row_lists.specs.Lists.{AreStored};
+ghost use Rattle.row_lists.specs.Lists.{AreStoredLists};
 ghost use Rattle.row_lists.specs.Frames.{AreColumnsOfFrame, AreInFrame};
 
 use crate::frame::Frame;
@@ -25,7 +25,7 @@ pub struct RowLists<'a> {
     pub ghost database: { IsDatabase db.now } by { database_once db.now },
     pub ghost wide: { length frame.now.slots ≡ length db.now },
     pub ghost within: { AreInFrame frame.now.tables frame.now.slots (names_of lists.now) },
-    pub ghost stored: { AreStored db.now (names_of lists.now) },
+    pub ghost stored: { AreStoredLists db.now (names_of lists.now) },
     pub ghost full: { length columns ≡ length frame.now.tables },
     pub ghost sorted: { ∥ AreColumnsOfFrame frame.now.tables (names_of lists.now) columns ∥₁ },
 }
@@ -65,7 +65,7 @@ impl<'a> RowLists<'a> {
     ) -> Result<RowLists<'a>, NoMemory>
         requires wide { length frame.now.slots ≡ length db.now }
         requires within { AreWithin frame.now.tables (names_of lists.now) }
-        requires stored { AreStored db.now (names_of lists.now) }
+        requires stored { AreStoredLists db.now (names_of lists.now) }
         ensures { IfOk result (λ found. (found.db.now ≡ db.now) × (found.frame.now ≡ frame.now) × (found.lists.now ≡ lists.now)) }
     {
         let _tables = db.count();

@@ -15,7 +15,7 @@ use Rattle.join_access.specs.Listing.{AreAllNames, AreNamesOf, no_name}
 use Rattle.join_access.proofs.Naming.{same-name}
 use Rattle.row_witnesses.specs.Columns.{place_at}
 use Rattle.row_witnesses.proofs.Told.{name_discrete}
-use Rattle.repair_back.specs.Results.{AreStored}
+use Rattle.table_blocks.specs.Tables.{AreStored}
 use Rattle.rows_against.specs.Against.{row_named, KeepsName, AreOfOneBlock, ComesBefore, IsAgainst}
 use Rattle.rows_against.specs.Hits.{IsRival, Hits, AreHit, IsHitBy}
 use Rattle.rows_against.specs.Chosen.{AreChosenAgainst}

@@ -19,7 +19,7 @@ use Rattle.cqa_model.proofs.Witnesses.{witness-stored}
 use Rattle.join_access.specs.Listing.{AreAllNames, AreNamesOf}
 use Rattle.join_access.specs.Witnesses.{AreNamedRows}
 use Rattle.join_access.proofs.Naming.{same-name, stand-once}
-use Rattle.repair_back.specs.Results.{AreStored}
+use Rattle.table_blocks.specs.Tables.{AreStored}
 use Rattle.row_witnesses.specs.Columns.{place_at}
 use Rattle.rows_against.specs.Against.{row_named, KeepsName, Excludes, AreOfOneBlock, AreOfDifferentBlocks}
 use Rattle.rows_against.specs.Hits.{IsRival, Hits, AreHit}

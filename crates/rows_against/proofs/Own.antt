@@ -16,7 +16,7 @@ use Rattle.cqa_model.proofs.Values.{row_discrete}
 use Rattle.cqa_model.proofs.Repairs.{shares-sym}
 use Rattle.cqa_model.proofs.Preferring.{preferring}
 use Rattle.join_access.specs.Witnesses.{AreNamedRows}
-use Rattle.repair_back.specs.Results.{AreStored}
+use Rattle.table_blocks.specs.Tables.{AreStored}
 use Rattle.row_witnesses.specs.Columns.{place_at}
 use Rattle.rows_against.specs.Against.{row_named, KeepsName, AreOfDifferentBlocks}
 

@@ -26,14 +26,14 @@ use Rattle.cqa_model.proofs.Repairs.{shares-sym}
 use Rattle.cqa_model.proofs.Witnesses.{at_table}
 use Rattle.join_access.specs.Listing.{AreAllNames, AreNamesOf, no_name}
 use Rattle.join_access.proofs.Naming.{same-name}
-use Rattle.repair_back.specs.Results.{AreStored, is_of_block, is_contested_in, contested_of}
+use Rattle.repair_back.specs.Results.{is_of_block, is_contested_in, contested_of}
+use Rattle.table_blocks.specs.Tables.{AreStored, rows_in, names_in}
 use Rattle.repair_back.specs.Rejected.{AreRejectingRows}
 use Rattle.rows_against.specs.Against.{row_named, KeepsName, AreOfOneBlock, ComesBefore}
 use Rattle.rows_against.specs.Hits.{Hits}
 use Rattle.rows_against.specs.Chosen.{AreChosenAgainst}
 use Rattle.rows_against.proofs.Own.{own_at, row_read, row_there}
 use Rattle.rows_against.proofs.Hitting.{one_place}
-use Rattle.table_blocks.specs.Tables.{rows_in, names_in}
 
 -- ---- lists of which each item comes before those behind it
 

@@ -7,7 +7,8 @@ use Rattle.cqa_model.specs.Database.{Table, stored, keys_of}
 use Rattle.cqa_model.specs.Repairs.{SharesKey, IsRepair}
 use Rattle.cqa_model.specs.Query.{atom_at, IsWitness}
 use Rattle.join_access.specs.Listing.{no_name}
-use Rattle.repair_back.specs.Results.{AreStored, is_contested_in}
+use Rattle.repair_back.specs.Results.{is_contested_in}
+use Rattle.table_blocks.specs.Tables.{AreStored}
 
 -- the row of a name
 abbrev pub row_named : List Table → RowId → List Value

@@ -4,7 +4,8 @@ use Rattle.cqa_model.specs.declared.query.Query.{Query}
 use Rattle.cqa_model.specs.declared.query.RowId.{RowId}
 use Rattle.cqa_model.specs.Database.{Table}
 use Rattle.cqa_model.specs.Query.{atom_at}
-use Rattle.repair_back.specs.Results.{AreStored, is_contested_in}
+use Rattle.repair_back.specs.Results.{is_contested_in}
+use Rattle.table_blocks.specs.Tables.{AreStored}
 use Rattle.rows_against.specs.Against.{AreInOrder, AreOfDifferentBlocks}
 use Rattle.rows_against.specs.Hits.{AreHit}
 

@@ -7,7 +7,7 @@ use Rattle.cqa_model.specs.Database.{Table, IsDatabase}
 use Rattle.cqa_model.specs.Query.{FitsDatabase}
 use Rattle.cqa_model.specs.Certain.{IsCertain}
 use Rattle.join_access.specs.Listing.{AreAllNames}
-use Rattle.repair_back.specs.Results.{AreStored}
+use Rattle.table_blocks.specs.Tables.{AreStored}
 use Rattle.rows_against.specs.Against.{AreOfDifferentBlocks, Excludes, IsAgainst}
 use Rattle.rows_against.specs.Hits.{AreHit}
 

@@ -2,7 +2,7 @@
 
 ghost use Rattle.std.specs.Prelude.{◌≡◌, ◌<◌, ℕ, Contains, IfOk, length, map, slice_index_or};
 ghost use Rattle.join_access.specs.Listing.{no_name};
-ghost use Rattle.repair_back.specs.Results.{AreStored};
+ghost use Rattle.table_blocks.specs.Tables.{AreStored};
 ghost use Rattle.repair_back.specs.Rejected.{AreRejectingRows};
 ghost use Rattle.rows_against.specs.Against.{IsAgainst};
 

@@ -20,8 +20,8 @@ use Rattle.repair_clauses.specs.Encodings.{IsEncoded}
 use Rattle.repair_clauses.specs.Models.{IsTrueVariable, IsPicked}
 use Rattle.repair_clauses.proofs.Models.{models_reject}
 use Rattle.part_search.proofs.Mapped.{get-map, of-map, true-there}
-use Rattle.repair_back.specs.Results.{AreKept, AreStored, IsTrueName, ArePicks, Rejects}
-use Rattle.table_blocks.specs.Tables.{names_in}
+use Rattle.repair_back.specs.Results.{AreKept, IsTrueName, ArePicks, Rejects}
+use Rattle.table_blocks.specs.Tables.{AreStored, names_in}
 
 same-variable : (x : Variable) (F i : ℕ) → x.slot ≡ F → x.place ≡ i → ◌≡◌ {A = Variable} x (record { slot = F; place = i })
 same-variable x F i a p = λ j. record { slot = a j; place = p j }

@@ -12,7 +12,7 @@ use Rattle.repair_back.specs.declared.reason.Reason.{Reason}
 use Rattle.repair_back.specs.declared.reason.Reason.TheVariants.{ByBlock, Rejected, Refuted}
 use Rattle.repair_back.specs.declared.reason.Untold.{Untold}
 use Rattle.repair_back.specs.declared.reason.Untold.TheVariants.{Over, Spent}
-use Rattle.repair_back.specs.Results.{AreStored}
+use Rattle.table_blocks.specs.Tables.{AreStored}
 use Rattle.repair_back.specs.Rejected.{AreRejectingRows}
 use Rattle.search_answers.specs.Deciding.{IsDecided}
 

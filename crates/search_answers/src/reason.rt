@@ -3,7 +3,7 @@
 ghost use Rattle.std.specs.Prelude.{◌≡◌, IfErr, IfOk, length};
 ghost use Rattle.cdcl.specs.Outcomes.{IsModel};
 ghost use Rattle.join_access.specs.Listing.{HasTooMany};
-ghost use Rattle.repair_back.specs.Results.{AreStored};
+ghost use Rattle.table_blocks.specs.Tables.{AreStored};
 ghost use Rattle.repair_back.specs.Rejected.{AreRejectingRows};
 ghost use Rattle.repair_clauses.specs.Encodings.{IsEncoded};
 ghost use Rattle.search_answers.specs.Deciding.{IsDecided};

@@ -6,7 +6,7 @@ use Rattle.cqa_model.specs.Database.{Table}
 use Rattle.cqa_model.specs.Blocks.{HasBlocks}
 use Rattle.cqa_model.specs.declared.schema.Schema.{Schema}
 use Rattle.table_blocks.specs.Tables.{rows_at, key_at}
-use Rattle.row_cursor.specs.Conflicts.{HasConflicts}
+use Rattle.row_blocks.specs.Conflicts.{HasConflicts}
 use Rattle.reply_text.specs.declared.reply.ConflictLine.{ConflictLine}
 use Rattle.reply_text.specs.declared.reply.TableLine.{TableLine}
 use Rattle.session_state.specs.ShowTables.{IsTableLine}

@@ -3,7 +3,7 @@ use Rattle.std.specs.Prelude.{◌≡◌, List, length}
 use Rattle.std.specs.List.{AllZip}
 use Rattle.cqa_model.specs.Database.{Table}
 use Rattle.cqa_model.specs.Blocks.{HasBlocks}
-use Rattle.row_cursor.specs.Conflicts.{HasConflicts}
+use Rattle.row_blocks.specs.Conflicts.{HasConflicts}
 use Rattle.reply_text.specs.declared.reply.ConflictLine.{ConflictLine}
 use Rattle.reply_text.specs.declared.reply.Reply.{Reply}
 use Rattle.reply_text.specs.declared.reply.Reply.TheVariants.{Contested}

@@ -13,7 +13,7 @@ use Rattle.script_lex.specs.declared.kinds.Symbol.TheVariants as s
 use Rattle.cqa_value.specs.declared.value.Kind.{Kind}
 use Rattle.cqa_value.specs.declared.value.Kind.TheVariants as kinds
 use Rattle.cqa_model.specs.declared.schema.Column.{Column}
-use Rattle.cqa_model.specs.Text.{kind_word}
+use Rattle.schema_text.specs.Text.{kind_word}
 use Rattle.cqa_model.specs.declared.query.Op.{Op}
 use Rattle.cqa_model.specs.declared.query.Op.TheVariants as ops
 use Rattle.cqa_value.specs.declared.value.Value.{Value}

@@ -5,7 +5,7 @@ ghost use Rattle.spj_syntax.specs.Lexemes.{Word, Mark};
 ghost use Rattle.spj_syntax.specs.Reading.{Reads};
 ghost use Rattle.spj_syntax.specs.Written.{literal_tokens, column_tokens, col_tokens, op_symbol};
 ghost use Rattle.cqa_model.specs.Valid.{IsName};
-ghost use Rattle.cqa_model.specs.Text.{kind_word};
+ghost use Rattle.schema_text.specs.Text.{kind_word};
 ghost use Rattle.spj_syntax.specs.Grammar as grammar;
 
 use crate::RawCol;

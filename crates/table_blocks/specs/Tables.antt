@@ -1,5 +1,5 @@
 -- How the tables of a database are found and changed.
-use Rattle.std.specs.Prelude.{◌≡◌, ◌⊎◌, ◌↔◌, ◌+◌, ℕ, Bool, false, if◌then◌else◌, List, [], ◌∷◌, length, Contains, Option, Some, None, position, nat_eq, slice_index_or, slice_get, slice_set, IfSome, take, zero, suc, ◌≤◌, ◌≢◌, map}
+use Rattle.std.specs.Prelude.{◌≡◌, ◌⊎◌, ◌↔◌, ◌+◌, ◌<◌, ℕ, Bool, false, if◌then◌else◌, List, [], ◌∷◌, length, Contains, Option, Some, None, position, nat_eq, slice_index_or, slice_get, slice_set, IfSome, take, zero, suc, ◌≤◌, ◌≢◌, map}
 use Rattle.std.specs.List.{AllByRecursion}
 use Rattle.std.specs.declared.cmp.Ordering.{Ordering}
 use Rattle.std.specs.declared.cmp.Ordering.TheVariants.{Less}
@@ -41,6 +41,10 @@ rows_in rows places = map (λ p. slice_index_or rows p []) places
 -- and their names, as rows of the table at a place
 abbrev pub names_in : ℕ → List ℕ → List RowId
 names_in table places = map (λ p. record { table = table; place = p }) places
+
+-- the names are those of stored rows
+abbrev pub AreStored : List Table → List RowId → Type 0
+AreStored db names = (name : RowId) → Contains names name → (name.table < length db) × (name.place < length (slice_index_or (stored db) name.table []))
 
 -- the database with other rows in the table at a place
 abbrev pub with_rows : List Table → ℕ → List (List Value) → List Table

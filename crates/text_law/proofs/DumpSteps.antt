@@ -13,7 +13,7 @@ use Rattle.refusals.specs.declared.refusal.Refusal.{Refusal}
 use Rattle.refusals.specs.declared.refusal.Refusal.TheVariants.{UnknownTable}
 use Rattle.cqa_model.specs.declared.schema.Schema.{Schema}
 use Rattle.cqa_model.specs.Database.{Table, IsRowOf, AreConsistent, block_cmp, kinds_of, row_total}
-use Rattle.cqa_model.specs.Text.{schema_bytes}
+use Rattle.schema_text.specs.Text.{schema_bytes}
 use Rattle.cqa_model.specs.Valid.{HasNames}
 use Rattle.script_lex.specs.Scripts.{Statement}
 use Rattle.spj_syntax.specs.declared.tree.Statement.{Statement as Tree}

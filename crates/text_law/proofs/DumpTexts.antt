@@ -16,7 +16,7 @@ use Rattle.cqa_value.proofs.Integers.{fits_to}
 use Rattle.cqa_model.specs.declared.schema.Column.{Column}
 use Rattle.cqa_model.specs.declared.schema.Schema.{Schema}
 use Rattle.cqa_model.specs.Shape.{column_at}
-use Rattle.cqa_model.specs.Text.{kind_word, column_text, columns_text, key_text, schema_bytes}
+use Rattle.schema_text.specs.Text.{kind_word, column_text, columns_text, key_text, schema_bytes}
 use Rattle.cqa_model.specs.Valid.{IsName, HasNames}
 use Rattle.script_lex.specs.declared.modes.Mode.TheVariants.{Outside}
 use Rattle.script_lex.specs.Scripts.{BeginsOutright, IsText, IsCopy}

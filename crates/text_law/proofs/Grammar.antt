@@ -9,7 +9,7 @@ use Rattle.cqa_value.specs.declared.value.Kind.TheVariants as column_kinds
 use Rattle.cqa_value.specs.declared.value.Value.{Value}
 use Rattle.cqa_value.specs.declared.value.Value.TheVariants as values
 use Rattle.cqa_model.specs.declared.schema.Column.{Column}
-use Rattle.cqa_model.specs.Text.{kind_word}
+use Rattle.schema_text.specs.Text.{kind_word}
 use Rattle.cqa_model.specs.Valid.{IsName}
 use Rattle.script_lex.specs.declared.kinds.Symbol.TheVariants as s
 use Rattle.spj_syntax.specs.declared.tree.RawSchema.{RawSchema}

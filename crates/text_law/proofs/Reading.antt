@@ -5,7 +5,7 @@ use Rattle.cqa_value.proofs.Words.{mem-head, mem-tail}
 use Rattle.cqa_model.specs.declared.query.Atom.{Atom}
 use Rattle.cqa_model.specs.declared.schema.Schema.{Schema}
 use Rattle.cqa_model.specs.Database.{Table, names_of}
-use Rattle.cqa_model.specs.Text.{schema_bytes}
+use Rattle.schema_text.specs.Text.{schema_bytes}
 use Rattle.cqa_model.specs.Valid.{HasNames}
 use Rattle.csv_rows.specs.Dumps.{create_words}
 use Rattle.script_lex.specs.Scripts.{Statement as Part}

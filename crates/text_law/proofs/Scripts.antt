@@ -8,7 +8,7 @@ use Rattle.cqa_value.specs.Valid.{IsValidValue}
 use Rattle.cqa_value.proofs.Words.{mem-tail, mem-head, Contains-filter}
 use Rattle.cqa_model.specs.declared.schema.Schema.{Schema}
 use Rattle.cqa_model.specs.Database.{Table, IsDatabase, IsTable, names_of, row_total}
-use Rattle.cqa_model.specs.Text.{schema_bytes}
+use Rattle.schema_text.specs.Text.{schema_bytes}
 use Rattle.cqa_model.specs.Valid.{HasNames, IsValidTable, AreValid}
 use Rattle.script_lex.specs.Scripts.{Statement}
 use Rattle.csv_rows.specs.Ends.{row_has_end, plain_rows, other_rows}

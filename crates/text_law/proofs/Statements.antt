@@ -11,7 +11,7 @@ use Rattle.cqa_value.specs.Valid.{IsValidValue, IsValidRow}
 use Rattle.cqa_model.specs.declared.schema.Column.{Column}
 use Rattle.cqa_model.specs.declared.schema.Schema.{Schema}
 use Rattle.cqa_model.specs.Shape.{column_at}
-use Rattle.cqa_model.specs.Text.{kind_word, column_text, schema_bytes}
+use Rattle.schema_text.specs.Text.{kind_word, column_text, schema_bytes}
 use Rattle.cqa_model.proofs.Classic.{mem-head, mem-tail}
 use Rattle.cqa_model.specs.Valid.{IsName, HasNames, is_word}
 use Rattle.script_lex.specs.declared.kinds.Symbol.TheVariants as s

@@ -12,8 +12,8 @@ use Rattle.cqa_model.specs.Unions.{HoldsSome}
 use Rattle.cnf_form.specs.Literals.{SatisfiesAll}
 use Rattle.cdcl.specs.Outcomes.{assignment}
 use Rattle.join_access.proofs.Naming.{stand-once}
-use Rattle.table_blocks.specs.Tables.{rows_at, key_at, names_in}
-use Rattle.repair_back.specs.Results.{AreKeptOver, AreTablePicks, AreStored}
+use Rattle.table_blocks.specs.Tables.{rows_at, key_at, names_in, AreStored}
+use Rattle.repair_back.specs.Results.{AreKeptOver, AreTablePicks}
 use Rattle.repair_back.specs.Results as repairs
 use Rattle.part_search.proofs.Mapped.{get-map, of-map, true-there}
 use Rattle.row_lists.specs.declared.formula.Encoded.{Encoded}

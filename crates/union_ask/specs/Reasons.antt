@@ -17,7 +17,7 @@ use Rattle.repair_back.specs.declared.reason.Reason.{Reason}
 use Rattle.repair_back.specs.declared.reason.Reason.TheVariants.{ByBlock, Rejected, Refuted}
 use Rattle.repair_back.specs.declared.reason.Untold.{Untold}
 use Rattle.repair_back.specs.declared.reason.Untold.TheVariants.{Over, Spent}
-use Rattle.repair_back.specs.Results.{AreStored}
+use Rattle.table_blocks.specs.Tables.{AreStored}
 use Rattle.part_search.specs.Parts.{HasTooManyIn}
 use Rattle.union_ask.specs.Encodings.{IsEncodedIn}
 use Rattle.union_ask.specs.Repairs.{AreRejectingRowsIn}

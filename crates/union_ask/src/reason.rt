@@ -5,7 +5,7 @@ ghost use Rattle.cdcl.specs.Outcomes.{IsModel};
 ghost use Rattle.join_access.specs.Listing.{IsOver};
 ghost use Rattle.part_search.specs.Lookups.{HasLengthOf};
 ghost use Rattle.part_search.specs.Parts.{HasTooManyIn};
-ghost use Rattle.repair_back.specs.Results.{AreStored};
+ghost use Rattle.table_blocks.specs.Tables.{AreStored};
 ghost use Rattle.union_ask.specs.Encodings.{IsEncodedIn};
 ghost use Rattle.union_ask.specs.Reasons.{IsDecidedIn, IsReasonIn, IsStoppedIn};
 ghost use Rattle.union_ask.specs.Repairs.{AreRejectingRowsIn};

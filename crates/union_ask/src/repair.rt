@@ -1,7 +1,7 @@
 //! The repair of a union's tables that a model gives.
 
 ghost use Rattle.std.specs.Prelude.{◌≡◌, IfOk, length};
-ghost use Rattle.repair_back.specs.Results.{AreStored};
+ghost use Rattle.table_blocks.specs.Tables.{AreStored};
 ghost use Rattle.union_ask.specs.Repairs.{AreUnionPicks, IsUnionRepair};
 
 use crate::frame::union_frame;

@@ -4,7 +4,7 @@ use Rattle.cqa_model.specs.declared.query.Plan.{Plan}
 use Rattle.cqa_model.specs.Variables.{whole}
 use Rattle.cqa_model.specs.Plan.{IsPlanOf}
 use Rattle.cqa_model.proofs.Elimination.{plan-eliminates}
-use Rattle.fo_rewrite.proofs.Distinct.{plan-atoms}
+use Rattle.cqa_model.proofs.PlanAtoms.{plan-atoms}
 use Rattle.call_tests.proofs.holding.says.Goals as goal
 
 pub holds-held-requires : goal.holds-held-requires

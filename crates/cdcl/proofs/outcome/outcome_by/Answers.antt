@@ -2,13 +2,13 @@ use Rattle.std.proofs.Common.{◌≤◌, ◌+◌, ℕ, Bool, List, length, arith
 use Rattle.cnf_form.specs.declared.formula.Lit.{Lit}
 use Rattle.cnf_form.specs.declared.log.Step.{Step}
 use Rattle.cnf_form.specs.Literals.{literals, SatisfiesAll}
-use Rattle.cnf_form.specs.Logs.{Refutes}
+use Rattle.cnf_form.specs.Logs.{Refutes, AreConsecutive}
 use Rattle.cnf_form.specs.Spent.{IsSpentLog}
 use Rattle.cdcl.specs.declared.solver.Verdict.{Verdict}
 use Rattle.cdcl.specs.declared.solver.Verdict.TheVariants.{Sat, Unsat, Spent}
 use Rattle.cdcl.specs.declared.outcome.Outcome.{Outcome}
 use Rattle.cdcl.specs.Lines.{VerdictIs, EndsEmpty, EndsSpent}
-use Rattle.cdcl.specs.Outcomes.{AttemptIs, IsModel, AreConsecutive, assignment}
+use Rattle.cdcl.specs.Outcomes.{AttemptIs, IsModel, assignment}
 use Rattle.cdcl.proofs.Values.{model}
 use Rattle.cdcl.proofs.Bridge.{refutation, spent_log}
 use Rattle.cdcl.proofs.outcome.outcome_by.Goals as goal

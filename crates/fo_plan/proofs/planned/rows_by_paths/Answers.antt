@@ -1,5 +1,5 @@
 use Rattle.cqa_model.specs.Variables.{whole}
-use Rattle.fo_rewrite.proofs.Distinct.{plan-all, plan-atoms}
+use Rattle.cqa_model.proofs.PlanAtoms.{plan-all, plan-atoms}
 use Rattle.fo_plan.proofs.Certainty.{certain-result}
 use Rattle.fo_plan.proofs.planned.rows_by_paths.Goals as goal
 

@@ -1,6 +1,6 @@
 use Rattle.std.proofs.Common.{IfSome, subst}
 use Rattle.cqa_model.specs.Plan.{IsEliminationOf}
-use Rattle.fo_rewrite.proofs.Distinct.{plan-within}
+use Rattle.cqa_model.proofs.PlanAtoms.{plan-within}
 use Rattle.fo_rewrite.proofs.passes.begin_with.Goals as goal
 
 pub cost_of-cost-requires : goal.cost_of-cost-requires

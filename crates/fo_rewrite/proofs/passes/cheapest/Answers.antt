@@ -1,4 +1,4 @@
-use Rattle.fo_rewrite.proofs.Distinct.{plan-within}
+use Rattle.cqa_model.proofs.PlanAtoms.{plan-within}
 use Rattle.fo_rewrite.proofs.passes.cheapest.Goals as goal
 
 pub cost_of-cost-requires : goal.cost_of-cost-requires

@@ -2,7 +2,7 @@ use Rattle.std.proofs.Common.{◌≡◌, refl, true≢false}
 use Rattle.cqa_model.specs.Variables.{whole}
 use Rattle.cqa_model.proofs.Cycles.{plan_or_cycle}
 use Rattle.cqa_model.proofs.Databases.{elimination_is_exact}
-use Rattle.fo_rewrite.proofs.Distinct.{plan-distinct}
+use Rattle.cqa_model.proofs.PlanAtoms.{plan-distinct}
 use Rattle.fo_rewrite.proofs.PlanSteps.{planned-start, planned-more, planned-none, planned-some, planned-first, attacked-before}
 use Rattle.fo_rewrite.specs.declared.preference.Choice.TheVariants.{First}
 use Rattle.fo_rewrite.proofs.planning.eliminated.Goals as goal

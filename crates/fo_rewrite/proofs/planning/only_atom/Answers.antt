@@ -1,7 +1,7 @@
 use Rattle.std.proofs.Common.{[], ◌∷◌, true≢false}
 use Rattle.cqa_model.specs.Variables.{whole}
 use Rattle.cqa_model.proofs.Databases.{elimination_is_exact}
-use Rattle.fo_rewrite.proofs.Distinct.{plan-distinct}
+use Rattle.cqa_model.proofs.PlanAtoms.{plan-distinct}
 use Rattle.fo_rewrite.proofs.OneAtom.{one-plan, one-order, one-acyclic}
 use Rattle.fo_rewrite.proofs.planning.only_atom.Goals as goal
 

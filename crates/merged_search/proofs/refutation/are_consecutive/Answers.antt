@@ -1,7 +1,7 @@
 use Rattle.std.proofs.Common.{ℕ, List, ◌∷◌, [], refl, sym, subst, arith}
 use Rattle.std.proofs.lemmas.List.{take_all}
 use Rattle.cnf_form.specs.declared.log.Step.{Step}
-use Rattle.cdcl.specs.Outcomes.{AreConsecutive}
+use Rattle.cnf_form.specs.Logs.{AreConsecutive}
 use Rattle.merged_search.proofs.Consecutive.{consecutive_more, consecutive_at}
 use Rattle.merged_search.proofs.refutation.are_consecutive.Goals as goal
 

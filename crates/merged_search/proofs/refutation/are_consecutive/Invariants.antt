@@ -1,5 +1,5 @@
 use Rattle.std.proofs.Common.{◌≡◌, ◌+◌, take}
-use Rattle.cdcl.specs.Outcomes.{AreConsecutive}
+use Rattle.cnf_form.specs.Logs.{AreConsecutive}
 use Rattle.merged_search.proofs.refutation.are_consecutive.Given as goal
 
 abbrev pub invariant-loop-step : goal.invariant-loop-step

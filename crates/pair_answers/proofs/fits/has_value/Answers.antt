@@ -1,4 +1,4 @@
-use Rattle.key_closure.proofs.Naming.{untold}
+use Rattle.cqa_model.proofs.ClassNames.{untold}
 use Rattle.pair_answers.proofs.fits.has_value.Goals as goal
 
 pub are_linked-requires-clause-variables : goal.are_linked-requires-clause-variables

@@ -1,7 +1,7 @@
 use Rattle.std.proofs.Common.{◌+◌, ◌<◌, length, ap, subst, sym, ◌∙◌, arith, true≢false}
 use Rattle.std.proofs.lemmas.List.{length_push}
 use Rattle.cqa_model.specs.Query.{atom_at}
-use Rattle.key_closure.proofs.Naming.{untold}
+use Rattle.cqa_model.proofs.ClassNames.{untold}
 use Rattle.pair_answers.specs.Shared.{AreSharedSoFar}
 use Rattle.pair_answers.proofs.Sharing.{shared-more, shared-less, shared-row, shared-end}
 use Rattle.pair_answers.proofs.shared.shared_columns.Goals as goal

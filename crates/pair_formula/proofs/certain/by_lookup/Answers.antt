@@ -1,7 +1,7 @@
 use Rattle.std.proofs.Common.{◌≡◌, ◌↔◌, ◌∙◌, IfOk, IsTrue, length, sym, subst}
 use Rattle.table_blocks.specs.declared.bound.Bound.{Bound}
 use Rattle.cqa_model.specs.Certain.{IsCertain}
-use Rattle.weak_pairs.specs.Pairs.{IsPair}
+use Rattle.cqa_model.specs.Graph.{IsPair}
 use Rattle.pair_formula.proofs.Carrying.{carried}
 use Rattle.pair_formula.proofs.certain.by_lookup.Goals as goal
 

@@ -2,7 +2,7 @@ use Rattle.std.proofs.Common.{◌≡◌, ◌∙◌, length, refl, sym, subst}
 use Rattle.std.proofs.lemmas.List.{nil_from_length}
 use Rattle.std.specs.Vec.Iter.{into_iter_items}
 use Rattle.table_blocks.specs.declared.bound.Bound.{Bound}
-use Rattle.weak_pairs.specs.Pairs.{IsPair}
+use Rattle.cqa_model.specs.Graph.{IsPair}
 use Rattle.repair_clauses.specs.Candidates.{AreCandidates}
 use Rattle.repair_clauses.proofs.Candidates.{has_length}
 use Rattle.row_answers.specs.Sides.{IsOf}

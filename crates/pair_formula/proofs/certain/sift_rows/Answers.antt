@@ -1,6 +1,6 @@
 use Rattle.std.proofs.Common.{OnOk, sym, subst}
 use Rattle.table_blocks.specs.declared.bound.Bound.{Bound}
-use Rattle.weak_pairs.specs.Pairs.{IsPair}
+use Rattle.cqa_model.specs.Graph.{IsPair}
 use Rattle.pair_answers.proofs.Told.{pair-told}
 use Rattle.repair_clauses.specs.Candidates.{AreCandidates}
 use Rattle.row_answers.specs.Sides.{IsOf}

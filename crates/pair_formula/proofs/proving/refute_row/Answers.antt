@@ -1,6 +1,5 @@
 use Rattle.std.proofs.Common.{sym, subst, length}
-use Rattle.cnf_form.specs.Logs.{Refutes}
-use Rattle.cdcl.specs.Outcomes.{AreConsecutive}
+use Rattle.cnf_form.specs.Logs.{Refutes, AreConsecutive}
 use Rattle.join_access.specs.Listing.{HasTooMany}
 use Rattle.row_lists.specs.declared.formula.Encoded.{Encoded}
 use Rattle.repair_clauses.specs.Encodings.{IsEncoded}

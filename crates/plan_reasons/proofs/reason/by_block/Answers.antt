@@ -4,7 +4,7 @@ use Rattle.cqa_model.specs.Database.{key_of}
 use Rattle.cqa_model.specs.Query.{atom_at, atom_key}
 use Rattle.cqa_model.specs.Variables.{whole}
 use Rattle.cqa_model.proofs.Elimination.{plan-eliminates}
-use Rattle.fo_rewrite.proofs.Distinct.{plan-all, plan-atoms}
+use Rattle.cqa_model.proofs.PlanAtoms.{plan-all, plan-atoms}
 use Rattle.plan_reasons.specs.Reasons.{first_of_plan, IsByBlock}
 use Rattle.plan_reasons.proofs.Blocks.{first-some, first-atom}
 use Rattle.plan_reasons.proofs.Keys.{few-keys}

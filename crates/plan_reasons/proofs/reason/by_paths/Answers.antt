@@ -1,6 +1,6 @@
 use Rattle.cqa_model.specs.Variables.{whole}
 use Rattle.cqa_model.proofs.Elimination.{plan-eliminates}
-use Rattle.fo_rewrite.proofs.Distinct.{plan-atoms}
+use Rattle.cqa_model.proofs.PlanAtoms.{plan-atoms}
 use Rattle.plan_reasons.proofs.reason.by_paths.Goals as goal
 
 pub ways_of-requires : goal.ways_of-requires

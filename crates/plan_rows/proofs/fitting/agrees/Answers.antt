@@ -1,6 +1,6 @@
 use Rattle.std.proofs.Common.{◌<◌, ◌∙◌, not, ap, sym, subst}
 use Rattle.std.proofs.lemmas.Bool.{false≢true, eqb-true, false_from_ne_true}
-use Rattle.key_closure.proofs.Naming.{untold}
+use Rattle.cqa_model.proofs.ClassNames.{untold}
 use Rattle.plan_rows.specs.Joining.{joined_in}
 use Rattle.plan_rows.proofs.Joining.{joined-agrees, agrees-joined, agrees-same}
 use Rattle.plan_rows.proofs.fitting.agrees.Goals as goal

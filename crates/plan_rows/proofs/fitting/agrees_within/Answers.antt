@@ -1,5 +1,5 @@
 use Rattle.std.proofs.Common.{refl}
-use Rattle.key_closure.proofs.Naming.{untold}
+use Rattle.cqa_model.proofs.ClassNames.{untold}
 use Rattle.plan_rows.specs.Joining.{joined_in}
 use Rattle.plan_rows.proofs.Joining.{joined-agrees, agrees-joined}
 use Rattle.plan_rows.proofs.fitting.agrees_within.Goals as goal

@@ -7,7 +7,7 @@ use Rattle.cqa_model.specs.Query.{atom_at}
 use Rattle.cqa_model.specs.Variables.{AreLinked}
 use Rattle.cqa_model.proofs.Columns.{class-linked}
 use Rattle.cqa_model.proofs.Views.{linked-self}
-use Rattle.key_closure.proofs.Naming.{untold}
+use Rattle.cqa_model.proofs.ClassNames.{untold}
 use Rattle.table_blocks.proofs.Binding.{in-range}
 use Rattle.plan_rows.specs.declared.joined.JoinedColumn.{JoinedColumn}
 use Rattle.plan_rows.specs.Fitting.{ColumnAgrees}

@@ -1,7 +1,7 @@
 use Rattle.std.proofs.Common.{◌≡◌, true}
 use Rattle.cqa_model.specs.Variables.{whole}
 use Rattle.key_closure.specs.Members.{seen}
-use Rattle.cqa_model.specs.declared.class.Class.TheVariants.{FirstOrder, Polynomial, CoNp}
+use Rattle.complexity_class.specs.declared.class.Class.TheVariants.{FirstOrder, Polynomial, CoNp}
 use Rattle.query_class.proofs.Rounds.{class-of_query}
 use Rattle.query_class.proofs.classes.class_of.Goals as goal
 

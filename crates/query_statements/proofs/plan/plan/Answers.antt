@@ -4,7 +4,7 @@ use Rattle.cqa_model.specs.declared.query.Plan.{Plan}
 use Rattle.cqa_model.specs.Variables.{whole}
 use Rattle.cqa_model.specs.Plan.{IsPlanOf}
 use Rattle.cqa_model.proofs.Elimination.{plan-eliminates}
-use Rattle.fo_rewrite.proofs.Distinct.{plan-atoms}
+use Rattle.cqa_model.proofs.PlanAtoms.{plan-atoms}
 use Rattle.query_resolve.specs.Checks.{query_fault}
 use Rattle.query_resolve.specs.Resolved.{IsAtomOf, IsQueryOf}
 use Rattle.query_statements.specs.Plan.{names_at}

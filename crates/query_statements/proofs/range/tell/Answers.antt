@@ -1,6 +1,7 @@
 use Rattle.std.proofs.Common.{map, sym, ◌∙◌, ap, subst}
 use Rattle.std.proofs.lemmas.Result.{IfOk-weaker}
-use Rattle.repair_back.specs.Results.{AreStored, is_contested_in}
+use Rattle.repair_back.specs.Results.{is_contested_in}
+use Rattle.table_blocks.specs.Tables.{AreStored}
 use Rattle.cqa_value.proofs.Words.{Contains-filter}
 use Rattle.query_replies.specs.Kept.{kept_line}
 use Rattle.query_statements.proofs.Contesting.{wide-contested}

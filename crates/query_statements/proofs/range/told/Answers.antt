@@ -1,5 +1,5 @@
 use Rattle.std.proofs.Common.{sym, subst}
-use Rattle.repair_back.specs.Results.{AreStored}
+use Rattle.table_blocks.specs.Tables.{AreStored}
 use Rattle.query_statements.proofs.range.told.Goals as goal
 
 pub kept_rows-requires : goal.kept_rows-requires

@@ -2,9 +2,8 @@ use Rattle.std.proofs.Common.{◌↔◌, IfSome, IsNone, subst, true≢false}
 use Rattle.cqa_model.specs.declared.query.Plan.{Plan}
 use Rattle.cqa_model.specs.Variables.{whole}
 use Rattle.cqa_model.specs.Graph.{HasCycle}
-use Rattle.cqa_model.specs.Plan.{IsPlanOf}
+use Rattle.cqa_model.specs.Plan.{IsPlanOf, IsExact}
 use Rattle.cqa_model.proofs.Elimination.{plan-eliminates}
-use Rattle.fo_rewrite.specs.Planning.{IsExact}
 use Rattle.query_strategy.proofs.strategy.strategy_of.Goals as goal
 
 pub returns-in-Some-clause-is : goal.returns-in-Some-clause-is

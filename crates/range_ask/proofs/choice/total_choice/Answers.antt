@@ -2,7 +2,7 @@ use Rattle.std.proofs.Common.{rules, refl, ap}
 use mir.Val.{SFits}
 use mir.Syntax.{w128}
 use Rattle.std.proofs.lemmas.Int.{to_z-of_z}
-use Rattle.cqa_model.specs.declared.aggregate.End.TheVariants.{Number}
+use Rattle.aggregate_range.specs.declared.aggregate.End.TheVariants.{Number}
 use Rattle.range_ask.proofs.Ended.{total-choice}
 use Rattle.range_ask.proofs.choice.total_choice.Goals as goal
 

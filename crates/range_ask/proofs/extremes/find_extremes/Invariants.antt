@@ -1,6 +1,6 @@
 use Rattle.std.proofs.Common.{length}
 use Rattle.table_blocks.specs.Tables.{rows_at, key_at}
-use Rattle.row_cursor.specs.Blocks.{blocks_of}
+use Rattle.row_blocks.specs.Blocks.{blocks_of}
 use Rattle.range_ask.specs.Ranges.{meets}
 use Rattle.range_ask.specs.Finding.{IsMetSoFar}
 use Rattle.range_ask.specs.Walking.{IsReading}

@@ -5,7 +5,7 @@ use Rattle.std.proofs.lemmas.Int.{to_z-of_z}
 use Rattle.cqa_value.proofs.Words.{clash}
 use Rattle.cqa_model.specs.declared.limits.TheConstants.{MOST_ROWS}
 use Rattle.cqa_model.specs.Repairs.{SharesKey}
-use Rattle.row_cursor.specs.Blocks.{blocks_of}
+use Rattle.row_blocks.specs.Blocks.{blocks_of}
 use Rattle.table_blocks.specs.Tables.{rows_at, key_at}
 use Rattle.range_ask.specs.Ranges.{meets}
 use Rattle.range_ask.specs.Picks.{worth}

@@ -3,7 +3,7 @@ use Rattle.std.specs.Prelude.{◌+ℤ◌}
 use mir.Val.{SFits}
 use mir.Syntax.{w64, w128}
 use Rattle.std.proofs.lemmas.Int.{to_z-of_z}
-use Rattle.cqa_model.specs.declared.aggregate.End.TheVariants.{Number}
+use Rattle.aggregate_range.specs.declared.aggregate.End.TheVariants.{Number}
 use Rattle.range_ask.specs.declared.total.Total.{Total}
 use Rattle.range_ask.specs.Picks.{worth}
 use Rattle.range_ask.specs.Finding.{added}

@@ -1,5 +1,5 @@
 use Rattle.std.proofs.Common.{sym, subst}
-use Rattle.repair_back.specs.Results.{AreStored}
+use Rattle.table_blocks.specs.Tables.{AreStored}
 use Rattle.reason_statements.specs.Against.{IsDecision}
 use Rattle.reason_statements.proofs.against.against_of.Goals as goal
 

@@ -1,6 +1,6 @@
 use Rattle.std.proofs.Common.{sym, subst}
 use Rattle.table_blocks.specs.declared.bound.Bound.{Bound}
-use Rattle.repair_back.specs.Results.{AreStored}
+use Rattle.table_blocks.specs.Tables.{AreStored}
 use Rattle.reason_statements.proofs.against.fewest_of.Goals as goal
 
 pub minimal_rows-names-requires-clause-stored : goal.minimal_rows-names-requires-clause-stored

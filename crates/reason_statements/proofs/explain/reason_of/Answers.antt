@@ -1,7 +1,7 @@
 use Rattle.std.proofs.Common.{◌≡◌, IfErr, IfOk, length, subst, sym}
 use Rattle.table_blocks.specs.declared.bound.Bound.{Bound}
 use Rattle.query_strategy.specs.Strategies.{HasNoPlan, IsStrategyOf}
-use Rattle.weak_pairs.specs.Pairs.{IsPair}
+use Rattle.cqa_model.specs.Graph.{IsPair}
 use Rattle.reason_statements.specs.Reasons.{IsReason, IsStopped}
 use Rattle.reason_statements.proofs.explain.reason_of.Goals as goal
 

@@ -1,6 +1,6 @@
 use Rattle.std.proofs.Common.{◌<◌, length, sym, subst}
 use Rattle.reply_text.specs.declared.reply.Proof.{Proof}
-use Rattle.repair_back.specs.Results.{AreStored}
+use Rattle.table_blocks.specs.Tables.{AreStored}
 use Rattle.reason_statements.specs.Reasons.{IsReason}
 use Rattle.reason_statements.proofs.Explaining.{block_told, repair_told, refutation_told}
 use Rattle.reason_statements.proofs.explain.reply_to.Goals as goal

@@ -1,6 +1,6 @@
 use Rattle.std.proofs.Common.{sym, subst}
 use Rattle.reply_text.specs.declared.reply.Proof.{Proof}
-use Rattle.repair_back.specs.Results.{AreStored}
+use Rattle.table_blocks.specs.Tables.{AreStored}
 use Rattle.union_ask.specs.Reasons.{IsReasonIn}
 use Rattle.reason_statements.proofs.Uniting.{union_rejected, union_refuted}
 use Rattle.reason_statements.proofs.explain_union.reply_to.Goals as goal

@@ -1,7 +1,6 @@
 use Rattle.std.proofs.Common.{IfSome, subst}
 use Rattle.cqa_model.specs.declared.query.Plan.{Plan}
-use Rattle.cqa_model.specs.Plan.{IsPlanOf}
-use Rattle.fo_rewrite.specs.Planning.{IsExact}
+use Rattle.cqa_model.specs.Plan.{IsPlanOf, IsExact}
 use Rattle.query_replies.proofs.Found.{none_found}
 use Rattle.reason_statements.proofs.prove.proved.Goals as goal
 

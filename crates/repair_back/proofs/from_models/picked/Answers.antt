@@ -1,6 +1,7 @@
 use Rattle.std.proofs.Common.{arith}
 use Rattle.repair_back.specs.declared.repair.Repair.{Repair}
-use Rattle.repair_back.specs.Results.{IsRepairOver, AreTablePicks, AreStored, names_kept}
+use Rattle.repair_back.specs.Results.{IsRepairOver, AreTablePicks, names_kept}
+use Rattle.table_blocks.specs.Tables.{AreStored}
 use Rattle.repair_back.proofs.Answering.{ok-map, marked-long, named-repair, named-picks}
 use Rattle.repair_back.proofs.Naming.{named-stored}
 use Rattle.repair_back.proofs.from_models.picked.Goals as goal

@@ -8,7 +8,7 @@ use Rattle.row_lists.specs.declared.formula.Encoded.{Encoded}
 use Rattle.row_lists.specs.declared.frame.Frame.{Frame}
 use Rattle.row_lists.specs.Encodings.{IsListEncoded}
 use Rattle.row_lists.specs.Formulas.{AreWithin}
-use Rattle.row_lists.specs.Lists.{AreStored}
+use Rattle.row_lists.specs.Lists.{AreStoredLists}
 use Rattle.repair_clauses.specs.Frames.{tables_of}
 use Rattle.repair_clauses.proofs.Bridge.{lists_within, lists_stored, row_encoded}
 use Rattle.repair_clauses.proofs.formula.encode_over.Goals as goal
@@ -24,7 +24,7 @@ pub new-requires-clause-stored : goal.new-requires-clause-stored
 new-requires-clause-stored c =
     let w = c.args.witnesses.now in
     let b = w.bound.now in
-    subst (λ (ws : List Witness). AreStored b.db.now (names_of ws)) (sym c.as_slice.ensures) (lists_stored b.query.now b.db.now b.fits w.row.now (names_of w.list) (all_names w))
+    subst (λ (ws : List Witness). AreStoredLists b.db.now (names_of ws)) (sym c.as_slice.ensures) (lists_stored b.query.now b.db.now b.fits w.row.now (names_of w.list) (all_names w))
 
 pub returns : goal.returns
 returns c =

@@ -1,6 +1,6 @@
 use Rattle.cqa_model.specs.Variables.{whole}
 use Rattle.cqa_model.proofs.Elimination.{plan-eliminates}
-use Rattle.fo_rewrite.proofs.Distinct.{plan-atoms}
+use Rattle.cqa_model.proofs.PlanAtoms.{plan-atoms}
 use Rattle.rewrite_text.proofs.Made.{made_passes}
 use Rattle.rewrite_text.proofs.printed.certificate.Goals as goal
 

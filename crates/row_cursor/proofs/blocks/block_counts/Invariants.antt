@@ -1,7 +1,7 @@
 use Rattle.std.proofs.Common.{◌≡◌, ◌+◌, length}
 use Rattle.std.specs.List.{count_by}
 use Rattle.row_cursor.specs.Blocks.{blocks_left}
-use Rattle.row_cursor.specs.Conflicts.{is_conflict}
+use Rattle.row_blocks.specs.Conflicts.{is_conflict}
 use Rattle.row_cursor.proofs.blocks.block_counts.Given as goal
 
 -- the blocks so far are counted, and the others are still to come

@@ -1,7 +1,8 @@
 use Rattle.std.proofs.Common.{sym, subst, List}
 use Rattle.std.proofs.lemmas.Result.{IfOk-weaker}
 use Rattle.cqa_model.specs.declared.query.RowId.{RowId}
-use Rattle.repair_back.specs.Results.{AreStored, ArePicks}
+use Rattle.repair_back.specs.Results.{ArePicks}
+use Rattle.table_blocks.specs.Tables.{AreStored}
 use Rattle.search_answers.proofs.Modelled.{names-stored, model-rejects}
 use Rattle.search_answers.proofs.reason.by_model.Goals as goal
 

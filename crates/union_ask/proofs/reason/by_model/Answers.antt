@@ -1,7 +1,7 @@
 use Rattle.std.proofs.Common.{List, sym, subst}
 use Rattle.std.proofs.lemmas.Result.{IfOk-weaker}
 use Rattle.cqa_model.specs.declared.query.RowId.{RowId}
-use Rattle.repair_back.specs.Results.{AreStored}
+use Rattle.table_blocks.specs.Tables.{AreStored}
 use Rattle.union_ask.specs.Repairs.{AreUnionPicks}
 use Rattle.union_ask.proofs.Rejecting.{names-stored, union_model_rejects}
 use Rattle.union_ask.proofs.reason.by_model.Goals as goal

@@ -1,4 +1,4 @@
-use Rattle.key_closure.proofs.Naming.{untold}
+use Rattle.cqa_model.proofs.ClassNames.{untold}
 use Rattle.key_closure.proofs.Members.{key-set, key-proper}
 use Rattle.key_closure.proofs.named.Named.key_set.Goals as goal
 

@@ -1,4 +1,4 @@
-use Rattle.key_closure.proofs.Naming.{untold}
+use Rattle.cqa_model.proofs.ClassNames.{untold}
 use Rattle.key_closure.proofs.Members.{var-set, var-proper}
 use Rattle.key_closure.proofs.named.Named.var_set.Goals as goal
 

@@ -1,4 +1,4 @@
-use Rattle.row_cursor.proofs.Parting.{blocks-are, blocks-few, side_by_side}
+use Rattle.row_blocks.proofs.Parting.{blocks-are, blocks-few, side_by_side}
 use Rattle.row_cursor.proofs.blocks.BlockCursor.over.Goals as goal
 
 pub returns-clause-blocks : goal.returns-clause-blocks

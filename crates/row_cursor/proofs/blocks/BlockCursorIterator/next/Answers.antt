@@ -4,8 +4,8 @@ use Rattle.cqa_value.specs.declared.value.Value.{Value}
 use Rattle.cqa_model.specs.Database.{block_cmp}
 use Rattle.cqa_model.specs.Repairs.{SharesKey}
 use Rattle.table_blocks.proofs.Spanning.{sorted-drop}
-use Rattle.row_cursor.specs.Blocks.{blocks_of}
-use Rattle.row_cursor.proofs.Parting.{first_block-is}
+use Rattle.row_blocks.specs.Blocks.{blocks_of}
+use Rattle.row_blocks.proofs.Parting.{first_block-is}
 use Rattle.row_cursor.proofs.blocks.BlockCursorIterator.next.Goals as goal
 
 -- the rows behind a block are in block order, too

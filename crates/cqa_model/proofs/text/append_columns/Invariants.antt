@@ -1,8 +1,0 @@
-use Rattle.std.proofs.Common.{◌≡◌, ◌++◌, codes, take}
-use Rattle.std.specs.List.{flat_map}
-use Rattle.cqa_model.specs.Text.{column_text}
-use Rattle.cqa_model.proofs.text.append_columns.Given as goal
-
--- the columns so far are written
-abbrev pub invariant-loop-column : goal.invariant-loop-column
-invariant-loop-column l = l.out.items ≡ l.fn.out.items ++ flat_map (λ column. column_text column ++ codes ", ") (take l.column-index l.columns)

@@ -1,0 +1,6 @@
+mod Apart
+mod Stepping
+mod Mended
+mod Looking
+mod Outcomes
+mod Rejecting

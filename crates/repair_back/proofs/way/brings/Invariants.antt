@@ -1,7 +1,0 @@
-use Rattle.std.proofs.Common.{ℕ, ◌<◌}
-use Rattle.repair_back.specs.Apart.{BringsNone}
-use Rattle.repair_back.proofs.way.brings.Given as goal
-
--- no column so far brings anything
-abbrev pub invariant-loop-col : goal.invariant-loop-col
-invariant-loop-col l = (j : ℕ) → j < l.col → BringsNone l.bound.query.now l.before (record { atom = l.atom; col = j }) l.rest

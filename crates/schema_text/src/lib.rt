@@ -1,0 +1,6 @@
+//! How a schema is written.
+#![tactic(auto)]
+
+mod text;
+
+pub use text::schema_text;
