@@ -27,6 +27,7 @@ def read(*path):
 
 
 def replies(script, word="run"):
+    """What the program writes."""
     ran = subprocess.run([PROGRAM, word], input=script.encode(), stdout=subprocess.PIPE, check=False)
     return ran.stdout.decode()
 
@@ -42,27 +43,51 @@ def compare(where, script, expected, got):
     return 1
 
 
-def main():
-    failed, language = 0, read("docs", "LANGUAGE.md")
-    for name, text in (("docs/LANGUAGE.md", language), ("docs/SQL.md", read("docs", "SQL.md"))):
-        for script, expected in blocks(text):
-            failed += compare(name, script, expected, replies(script))
-    for statement, expected in re.findall(r"^\| `([^`]*;)` \| `([^`]*)` \|", language, flags=re.M):
-        failed += compare("docs/LANGUAGE.md", statement + "\n", expected, replies(STAFF + statement).split("\n")[1])
-    tour = blocks(read("README.md"))
-    script, expected = "\n".join(part for part, _ in tour), "".join(reply for _, reply in tour)
-    failed += compare("README.md", script, expected, replies(script))
-    failed += compare("crates/cqa_cli/stdin", "", read("crates", "cqa_cli", "stdin"), script)
+def scripts():
+    """The scripts and proofs of pages and examples, each with its place, its word and what the program has to write."""
+    for name in ("LANGUAGE.md", "SQL.md"):
+        for script, expected in blocks(read("docs", name)):
+            yield "docs/" + name, script, "run", expected
+    script, expected = tour()
+    yield "README.md", script, "run", expected
     for path in sorted(glob.glob(os.path.join(TOP, "examples", "*.out"))):
         name = os.path.basename(path)[:-4]
         kind = next(kind for kind in (".cqa", ".lrat", ".rewriting") if os.path.exists(os.path.join(TOP, "examples", name + kind)))
-        got = replies(read("examples", name + kind), "run" if kind == ".cqa" else "check")
-        failed += compare("examples/" + name, "", read("examples", name + ".out"), got)
-    proof = replies(read("examples", "search.cqa")).partition("certain by refutation\n")[2]
-    failed += compare("examples/search.cqa, its proof", proof, "verified\n", replies(proof, "check"))
-    certificate = "rewriting\n" + replies(read("examples", "certificate.cqa")).partition("rewriting\n")[2]
+        yield "examples/" + name, read("examples", name + kind), "run" if kind == ".cqa" else "check", read("examples", name + ".out")
+
+
+def statements():
+    """The statements of the tables in LANGUAGE.md, each as a script behind a table, and the line that the program has to write next."""
+    for statement, expected in re.findall(r"^\| `([^`]*;)` \| `([^`]*)` \|", read("docs", "LANGUAGE.md"), flags=re.M):
+        yield STAFF + statement, expected
+
+
+def tour():
+    """The blocks of README.md as one script, and all that it writes."""
+    parts = blocks(read("README.md"))
+    return "\n".join(script for script, _ in parts), "".join(reply for _, reply in parts)
+
+
+def proofs(replies_to):
+    """How many of the proofs that examples end with aren't verified, or aren't the stored ones; replies_to: what the program writes."""
+    proof = replies_to(read("examples", "search.cqa"), "run").partition("certain by refutation\n")[2]
+    failed = compare("examples/search.cqa, its proof", proof, "verified\n", replies_to(proof, "check"))
+    certificate = "rewriting\n" + replies_to(read("examples", "certificate.cqa"), "run").partition("rewriting\n")[2]
     failed += compare("examples/certificate.cqa, its end", "", read("examples", "certificate.rewriting"), certificate)
-    failed += compare("examples/certificate.cqa, its certificate", certificate, "verified\n", replies(certificate, "check"))
+    return failed + compare("examples/certificate.cqa, its certificate", certificate, "verified\n", replies_to(certificate, "check"))
+
+
+def stored_tour():
+    """1 where the stored run of the program isn't the tour of README.md, and else 0."""
+    return compare("crates/cqa_cli/stdin", "", read("crates", "cqa_cli", "stdin"), tour()[0])
+
+
+def main():
+    failed = stored_tour() + proofs(replies)
+    for where, script, word, expected in scripts():
+        failed += compare(where, script, expected, replies(script, word))
+    for script, expected in statements():
+        failed += compare("docs/LANGUAGE.md", script, expected, replies(script).split("\n")[1])
     print("%d differ" % failed if failed else "all blocks and examples agree")
     return 1 if failed else 0
 

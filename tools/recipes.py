@@ -7,7 +7,8 @@ A block ```csv NAME is a list, and a block ```sh or ```python a recipe; a block 
 that is named `alone` needs no list. Each
 page is a folder of its own, in which its recipes follow one after the other. Then each recipe that stands behind a list is run
 in a folder where things are broken: a list has an empty key, an unended quote, or isn't there; a script has a refused
-statement, or isn't there. There it has to fail: a status that isn't 0, and no file that it writes by -o or by Python.
+statement, or isn't there. There it has to fail: a status that isn't 0, and no file that it writes by -o or by Python. The recipe
+with `./cqa try` compiles the program without its proofs: once, since a broken list ends it before.
 """
 
 import os
@@ -33,7 +34,7 @@ def run(kind, recipe, folder):
     """The status and the output of a recipe."""
     command = ["bash", "-c", recipe] if kind == "sh" else [sys.executable, "-B", "-c", recipe]
     environment = dict(os.environ, PYTHONPATH=os.path.join(TOP, "python"), PYTHONDONTWRITEBYTECODE="1")
-    ran = subprocess.run(command, cwd=folder, env=environment, stdin=subprocess.DEVNULL, stdout=subprocess.PIPE, stderr=subprocess.PIPE, timeout=120, check=False)
+    ran = subprocess.run(command, cwd=folder, env=environment, stdin=subprocess.DEVNULL, stdout=subprocess.PIPE, stderr=subprocess.PIPE, timeout=900, check=False)
     return ran.returncode, ran.stdout.decode(), ran.stderr.decode()
 
 
