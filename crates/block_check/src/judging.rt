@@ -37,7 +37,7 @@ fn judge<'x>(rest: &Rest<'x>, row: &'x Row, nodes: &'x [Node], marks: &'x [Mark]
 /// The same of the rest of an order of which nothing was taken.
 fn judge_along<'x>(
     alloc: Global,
-    setting: Setting<'x>,
+    setting: Setting<'x, 'x>,
     order: &'x [u32],
     row: &'x Row,
     nodes: &'x [Node],

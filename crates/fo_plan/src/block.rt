@@ -64,7 +64,7 @@ fn found_block<'x, 'a>(course: &'x Course<'x, 'a>, row: &'x Row) -> Option<Rows<
 
 /// The first block of the first atom of an order by which it holds.
 fn block_along<'a>(
-    setting: Setting<'a>,
+    setting: Setting<'_, 'a>,
     order: &[u32],
     row: &Row,
     ways: &[Items<Link<'_>>],
@@ -91,10 +91,10 @@ fn block_along<'a>(
 /// rows were looked at, what was decided of rests is remembered, as far as there is memory for it.
 pub fn block_of<'a>(
     alloc: Global,
-    bound: &'a Bound<'a>,
+    bound: &Bound<'a>,
     plan: &Plan,
     row: &Row,
-    paths: &'a [Option<RowIndex<'a>>],
+    paths: &[Option<RowIndex<'_>>],
     ways: &[Items<Link<'_>>],
 ) -> Option<Rows<'a>>
     requires plan { AreQueryAtoms bound.now.query.now plan.now.order }
@@ -106,8 +106,8 @@ pub fn block_of<'a>(
     let order = plan.order.as_slice();
     let setting = Setting {
         alloc,
-        bound,
-        paths,
+        bound: &*bound,
+        paths: &*paths,
         joined: JoinedColumns::new(bound),
     };
     match grouped_along(&setting, order, ways) {

@@ -100,7 +100,7 @@ fn add_linked(
 /// Adds a shortest chain of atoms that leads from what is known once rows of some atoms are taken to one of these ends, if
 /// there is one: each of the chain is joined to the next, and the last to an end.
 fn add_chain(
-    setting: &Setting<'_>,
+    setting: &Setting<'_, '_>,
     given: &[ColRef],
     ends: &[u32],
     atoms: &[u32],
@@ -129,7 +129,7 @@ fn add_chain(
 ///
 /// `NoMemory` where memory is refused.
 pub(crate) fn telling_atoms(
-    setting: &Setting<'_>,
+    setting: &Setting<'_, '_>,
     order: &[u32],
     place: usize,
     given: &[ColRef],

@@ -15,7 +15,7 @@ use table_blocks::Bound;
 
 /// Adds links: the atoms behind the first ones, whose rows are taken, each with an index by what is known when it is come to.
 fn add_links<'a>(
-    setting: &Setting<'a>,
+    setting: &Setting<'_, 'a>,
     atoms: &[u32],
     taken: usize,
     given: &[ColRef],
@@ -38,7 +38,7 @@ fn add_links<'a>(
 
 /// The links of the atom at a place of an order.
 fn links_at<'a>(
-    setting: &Setting<'a>,
+    setting: &Setting<'_, 'a>,
     order: &[u32],
     place: usize,
     given: &[ColRef],
@@ -61,7 +61,7 @@ fn links_at<'a>(
 
 /// The links of an atom; none where it isn't in the order.
 fn links_of<'a>(
-    setting: &Setting<'a>,
+    setting: &Setting<'_, 'a>,
     order: &[u32],
     given: &[ColRef],
     atom: u32,
@@ -79,7 +79,7 @@ fn links_of<'a>(
 
 /// Adds the links of each atom.
 fn add_ways<'a>(
-    setting: &Setting<'a>,
+    setting: &Setting<'_, 'a>,
     order: &[u32],
     given: &[ColRef],
     ways: &mut Vec<Items<Link<'a>>>,
@@ -105,7 +105,7 @@ fn add_ways<'a>(
 /// `NoMemory` where memory is refused.
 pub fn ways_of<'a>(
     alloc: Global,
-    bound: &'a Bound<'a>,
+    bound: &Bound<'a>,
     plan: &Plan,
     given: &[ColRef],
 ) -> Result<Vec<Items<Link<'a>>>, NoMemory>
@@ -118,7 +118,7 @@ pub fn ways_of<'a>(
     }
     let setting = Setting {
         alloc,
-        bound,
+        bound: &*bound,
         paths: &[],
         joined: JoinedColumns::new(bound),
     };

@@ -84,9 +84,9 @@ module _ (q : Query) (v : Variables) (F : ℕ) where
         ]
 
   -- none of an atom that isn't there
-  pub joined-past : (joined : JoinedColumns) → length q.atoms ≤ F → length joined.atoms.items ≤ F → AreJoinedIn q v F (joined_in joined F)
+  pub joined-past : (joined : JoinedColumns) → length q.atoms ≤ F → length joined.atoms ≤ F → AreJoinedIn q v F (joined_in joined F)
   joined-past joined past few =
-      subst (AreJoinedIn q v F) (ap (λ list. list.items) (sym (get_or_past joined.atoms.items F (record { items = [] }) few)))
+      subst (AreJoinedIn q v F) (sym (get_or_past joined.atoms F [] few))
       (subst (λ n. AreJoinedFirst q v F n []) (ap (λ (a : Atom). a.width) (sym (past-atoms q F past))) joined-starts)
 
 -- rows agree where they do in the columns that joins name, and rows of one atom in all

@@ -31,7 +31,7 @@ AreJoinedIn q v F joined = AreJoinedFirst q v F (atom_at q F).width joined
 
 -- the list of an atom; empty for one that isn't there
 abbrev pub joined_in : JoinedColumns → ℕ → List JoinedColumn
-joined_in joined F = (slice_index_or joined.atoms.items F (record { items = [] })).items
+joined_in joined F = slice_index_or joined.atoms F []
 
 -- each atom has such a list
 abbrev pub AreJoined : Query → Variables → JoinedColumns → Type 0

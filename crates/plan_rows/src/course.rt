@@ -18,7 +18,7 @@ const FEWEST_KEPT: usize = 1_024;
 /// before it, where links are wanted.
 #[derive(Drop)]
 pub struct Course<'x, 'a> {
-    pub setting: Setting<'a>,
+    pub setting: Setting<'x, 'a>,
     pub order: &'x [u32],
     pub shared: &'x [Items<ColRef>],
     pub ways: &'x [Items<Link<'x>>],
@@ -28,7 +28,7 @@ pub struct Course<'x, 'a> {
 }
 
 /// How many rows the tables of a query's atoms have, a table counted once for each of its atoms.
-fn row_total(setting: &Setting<'_>) -> u64
+fn row_total(setting: &Setting<'_, '_>) -> u64
     ensures { result ≤ length setting.now.bound.now.query.now.atoms * MOST_ROWS }
 {
     let mut rows = 0;
@@ -39,12 +39,12 @@ fn row_total(setting: &Setting<'_>) -> u64
 }
 
 /// How many rows may be tried along a plan before what is decided is remembered: four times those of the query's tables.
-pub(crate) fn turns_before_memo(setting: &Setting<'_>) -> u64 {
+pub(crate) fn turns_before_memo(setting: &Setting<'_, '_>) -> u64 {
     4 * row_total(setting)
 }
 
 /// How many rests of a plan are remembered at most: as many as the query's tables have rows, a table counted once for each
 /// of its atoms, at least 1,024.
-pub(crate) fn rests_to_keep(setting: &Setting<'_>) -> usize {
+pub(crate) fn rests_to_keep(setting: &Setting<'_, '_>) -> usize {
     FEWEST_KEPT.max(row_total(setting) as usize)
 }

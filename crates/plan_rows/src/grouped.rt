@@ -41,7 +41,7 @@ fn is_joined(bound: &Bound<'_>, group: &AtomSet, atom: u32) -> bool
 }
 
 /// The first of some atoms that is outside of a group and joined to one of it.
-fn next_joined(setting: &Setting<'_>, group: &AtomSet, atoms: &[u32]) -> Option<u32>
+fn next_joined(setting: &Setting<'_, '_>, group: &AtomSet, atoms: &[u32]) -> Option<u32>
     requires { AreQueryAtoms setting.now.bound.now.query.now atoms.now }
     ensures { MatchOption result (IsClosed setting.now.bound.now.query.now group.now atoms.now) (λ F. F < length setting.now.bound.now.query.now.atoms) }
 {
@@ -54,7 +54,7 @@ fn next_joined(setting: &Setting<'_>, group: &AtomSet, atoms: &[u32]) -> Option<
 }
 
 /// An atom with those of others that chains of joins link to it.
-fn group_of(setting: &Setting<'_>, atom: u32, atoms: &[u32]) -> AtomSet
+fn group_of(setting: &Setting<'_, '_>, atom: u32, atoms: &[u32]) -> AtomSet
     requires atom { atom < length setting.now.bound.now.query.now.atoms }
     requires atoms { AreQueryAtoms setting.now.bound.now.query.now atoms.now }
     ensures { IsClosed setting.now.bound.now.query.now result atoms.now }
@@ -94,7 +94,7 @@ fn part(
 
 /// Adds to an order those of some atoms that chains of joins link to one. The others are left.
 fn add_group(
-    setting: &Setting<'_>,
+    setting: &Setting<'_, '_>,
     atom: u32,
     atoms: &[u32],
     order: &mut Vec<u32>,
@@ -111,7 +111,7 @@ fn add_group(
 
 /// Adds atoms to an order, those first that chains of joins link to another, and then group by group.
 fn add_groups(
-    setting: &Setting<'_>,
+    setting: &Setting<'_, '_>,
     first: u32,
     atoms: &[u32],
     order: &mut Vec<u32>,
@@ -136,7 +136,7 @@ fn add_groups(
 }
 
 /// An order of the same atoms that begins with the same one, and in which those that chains of joins link stand together.
-fn grouped(setting: &Setting<'_>, order: &[u32]) -> Result<Vec<u32>, NoMemory>
+fn grouped(setting: &Setting<'_, '_>, order: &[u32]) -> Result<Vec<u32>, NoMemory>
     requires { AreQueryAtoms setting.now.bound.now.query.now order.now }
     ensures { IfOk result (λ other. IsRegrouped setting.now.bound.now.query.now order.now other.items) }
 {
@@ -153,7 +153,7 @@ fn grouped(setting: &Setting<'_>, order: &[u32]) -> Result<Vec<u32>, NoMemory>
 
 /// The same where the links of each atom are behind it in that order as well; `None` where they aren't, or memory is refused.
 pub fn grouped_along(
-    setting: &Setting<'_>,
+    setting: &Setting<'_, '_>,
     order: &[u32],
     ways: &[Items<Link<'_>>],
 ) -> Option<Vec<u32>>

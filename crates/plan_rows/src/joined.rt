@@ -3,8 +3,8 @@
 ghost use Rattle.std.specs.Prelude.{◌≡◌, ◌↔◌, IsTrue, All};
 ghost use Rattle.plan_rows.specs.Joining.{LeavesOut, AreJoinedIn, AreJoined, joined_in};
 
-use arrayvec::ArrayVec;
 use cqa_model::{ColRef, Cond, MOST_ATOMS, MOST_COLUMNS};
+use row_order::InlineVec;
 use table_blocks::Bound;
 
 const ATOMS: usize = MOST_ATOMS as usize;
@@ -19,7 +19,7 @@ pub(crate) struct JoinedColumn {
 /// For each atom of a query those of its columns that a join names. They take no memory.
 #[derive(Drop)]
 pub struct JoinedColumns {
-    atoms: ArrayVec<ArrayVec<JoinedColumn, MOST_COLUMNS>, ATOMS>,
+    atoms: InlineVec<InlineVec<JoinedColumn, MOST_COLUMNS>, ATOMS>,
 }
 
 /// Whether a condition doesn't join a column.
@@ -40,11 +40,11 @@ fn is_alone(conds: &[Cond], column: ColRef) -> bool
 }
 
 /// Those columns of an atom that a join names.
-fn joined_columns(bound: &Bound<'_>, atom: u32) -> ArrayVec<JoinedColumn, MOST_COLUMNS>
-    ensures { AreJoinedIn bound.now.query.now bound.now.variables atom result.items }
+fn joined_columns(bound: &Bound<'_>, atom: u32) -> InlineVec<JoinedColumn, MOST_COLUMNS>
+    ensures { AreJoinedIn bound.now.query.now bound.now.variables atom result }
 {
     let conds = bound.query.conds.as_slice();
-    let mut joined = ArrayVec::new();
+    let mut joined = InlineVec::new();
     for col in 0..bound.width_of(atom) {
         let column = ColRef { atom, col };
         if is_alone(conds, column) {
@@ -63,7 +63,7 @@ impl JoinedColumns {
     pub fn new(bound: &Bound<'_>) -> JoinedColumns
         ensures { AreJoined bound.now.query.now bound.now.variables result }
     {
-        let mut atoms = ArrayVec::new();
+        let mut atoms = InlineVec::new();
         for atom in 0..bound.query.atoms.len() as u32 {
             atoms.push(joined_columns(bound, atom));
         }

@@ -48,7 +48,7 @@ fn told(conds: &[Cond], column: ColRef) -> Option<&Value>
 
 /// The value that a row of an atom tells of a column: that of its own column which is linked to it.
 fn told_by_row<'b>(
-    setting: &Setting<'_>,
+    setting: &Setting<'_, '_>,
     other: u32,
     row: &'b Row,
     column: ColRef,
@@ -69,7 +69,7 @@ fn told_by_row<'b>(
 }
 
 /// The value that some row taken tells of a column.
-fn told_by_taken<'b>(setting: &Setting<'_>, taken: &Taken<'b>, column: ColRef) -> Option<&'b Value>
+fn told_by_taken<'b>(setting: &Setting<'_, '_>, taken: &Taken<'b>, column: ColRef) -> Option<&'b Value>
     requires { IsInRange setting.now.bound.now.query.now.atoms column }
     ensures { IfSome result (λ value. (y : List Cell) → AgreesAll setting.now.bound.now.query.now column.atom y (placed taken.now) → slice_index_or y column.col nothing ≡ value.now) }
 {

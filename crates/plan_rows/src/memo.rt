@@ -98,7 +98,7 @@ fn memo_key(
 impl Memo {
     /// An empty memo for a plan over a database: nothing is kept before four times as many rows were tried as the query's
     /// tables have, and no more rests at a time than these have rows, or 1,024.
-    pub fn over(setting: &Setting<'_>, candidates: Candidates) -> Memo
+    pub fn over(setting: &Setting<'_, '_>, candidates: Candidates) -> Memo
         ensures { (key : List Cell) → get row_cmp result.known key ≡ None }
     {
         Memo {

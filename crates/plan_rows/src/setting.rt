@@ -12,10 +12,10 @@ use table_blocks::Bound;
 /// A query that fits a database, with indexes of the tables of its atoms, where there are some, and the columns that its joins
 /// name.
 #[derive(Drop)]
-pub struct Setting<'a> {
+pub struct Setting<'x, 'a> {
     pub alloc: Global,
-    pub bound: &'a Bound<'a>,
-    pub paths: &'a [Option<RowIndex<'a>>],
+    pub bound: &'x Bound<'a>,
+    pub paths: &'x [Option<RowIndex<'x>>],
     pub joined: JoinedColumns,
     pub ghost indexed: { ArePaths bound.now.query.now bound.now.db.now paths.now },
     pub ghost found: { AreJoined bound.now.query.now bound.now.variables joined } by { joined_once bound.now.query.now bound.now.variables joined },
@@ -33,12 +33,12 @@ fn path_of<'a>(paths: &'a [Option<RowIndex<'a>>], atom: usize) -> Option<&'a Row
     None
 }
 
-impl<'a> Setting<'a> {
+impl<'x, 'a> Setting<'x, 'a> {
     ghost use Rattle.cqa_model.specs.Database.{stored};
     ghost use Rattle.cqa_model.specs.Query.{rows_of};
 
     /// The index of an atom's table, if there is one.
-    pub fn index_of(&self, atom: u32) -> Option<&'a RowIndex<'a>>
+    pub fn index_of(&self, atom: u32) -> Option<&'x RowIndex<'x>>
         ensures { IfSome result (λ x. x.now.rows ≡ rows_of self.now.bound.now.query.now (stored self.now.bound.now.db.now) atom) }
     {
         path_of(self.paths, atom as usize)

@@ -74,7 +74,7 @@ fn add_shared(
 }
 
 /// The columns of atoms that are linked to columns of others.
-fn shared_of(setting: &Setting<'_>, front: &[u32], rest: &[u32]) -> Result<Items<ColRef>, NoMemory>
+fn shared_of(setting: &Setting<'_, '_>, front: &[u32], rest: &[u32]) -> Result<Items<ColRef>, NoMemory>
     ensures { IfOk result (HasShared setting.now.bound.now.query.now front.now rest.now) }
 {
     let mut columns = Vec::new(setting.alloc);
@@ -89,7 +89,7 @@ fn shared_of(setting: &Setting<'_>, front: &[u32], rest: &[u32]) -> Result<Items
 /// # Errors
 ///
 /// `NoMemory` where memory is refused.
-pub fn shared_columns(setting: &Setting<'_>, order: &[u32]) -> Result<Vec<Items<ColRef>>, NoMemory>
+pub fn shared_columns(setting: &Setting<'_, '_>, order: &[u32]) -> Result<Vec<Items<ColRef>>, NoMemory>
     ensures { IfOk result (λ shared. AreSharedInParts setting.now.bound.now.query.now order.now shared.items) }
 {
     let mut shared = Vec::new(setting.alloc);
@@ -101,7 +101,7 @@ pub fn shared_columns(setting: &Setting<'_>, order: &[u32]) -> Result<Vec<Items<
 }
 
 /// The same lists, or none where memory is refused.
-pub fn shared_or_none(setting: &Setting<'_>, order: &[u32]) -> Vec<Items<ColRef>>
+pub fn shared_or_none(setting: &Setting<'_, '_>, order: &[u32]) -> Vec<Items<ColRef>>
     ensures { AreSharedInParts setting.now.bound.now.query.now order.now result.items }
 {
     match shared_columns(setting, order) {

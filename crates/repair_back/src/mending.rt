@@ -39,7 +39,7 @@ use std::alloc::Global;
 use table_blocks::Bound;
 
 /// The place that is kept of a block.
-fn kept_of(setting: &Setting<'_>, atom: u32, start: usize, end: usize, kept: &[Choice]) -> usize
+fn kept_of(setting: &Setting<'_, '_>, atom: u32, start: usize, end: usize, kept: &[Choice]) -> usize
     requires atom { atom < length setting.now.bound.now.query.now.atoms }
     requires chosen { AreRepairFlags setting.now.bound.now.query.now setting.now.bound.now.db.now kept.now }
     requires block { IsBlockBetween (atom_key setting.now.bound.now.query.now atom) (rows_of setting.now.bound.now.query.now (stored setting.now.bound.now.db.now) atom) start end }
@@ -51,7 +51,7 @@ fn kept_of(setting: &Setting<'_>, atom: u32, start: usize, end: usize, kept: &[C
 }
 
 /// Keeps another row of an atom's table.
-fn keep(setting: &Setting<'_>, atom: u32, kept: &mut [Choice], out: usize, into: usize)
+fn keep(setting: &Setting<'_, '_>, atom: u32, kept: &mut [Choice], out: usize, into: usize)
     requires atom { atom < length setting.now.bound.now.query.now.atoms }
     requires tables { length kept.old ≡ length setting.now.bound.now.db.now }
     requires out { out < length (flags_of setting.now.bound.now.query.now kept.old atom) }

@@ -65,7 +65,7 @@ fn enough_at(bound: &Bound<'_>, order: &[u32], place: usize) -> usize
 /// # Errors
 ///
 /// `NoMemory` where memory is refused.
-pub(crate) fn enough_of(setting: &Setting<'_>, order: &[u32]) -> Result<Vec<usize>, NoMemory>
+pub(crate) fn enough_of(setting: &Setting<'_, '_>, order: &[u32]) -> Result<Vec<usize>, NoMemory>
     ensures { IfOk result (λ enough. AreEnough setting.now.bound.now.query.now order.now enough.items) }
 {
     let mut enough = Vec::new(setting.alloc);

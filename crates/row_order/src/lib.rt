@@ -5,6 +5,8 @@
 mod cells;
 mod compare;
 mod flat;
+mod inline_vec;
+mod null_allocator;
 mod order;
 mod settle;
 mod short_list;
@@ -12,5 +14,7 @@ mod sort;
 
 pub use cells::cell;
 pub use compare::{block_compare, key_compare};
+pub use inline_vec::InlineVec;
+pub use null_allocator::NullAllocator;
 pub use order::put_in_order;
 pub use short_list::{Probe, ShortList};

@@ -5,6 +5,6 @@ use Rattle.plan_rows.proofs.joined.joined_columns.Given as goal
 -- those of the columns so far
 abbrev pub invariant-loop-col : goal.invariant-loop-col
 invariant-loop-col l = record {
-  few : length l.joined.items ≤ l.col;
-  found : AreJoinedFirst l.bound.query.now l.bound.variables l.atom l.col l.joined.items;
+  few : length l.joined ≤ l.col;
+  found : AreJoinedFirst l.bound.query.now l.bound.variables l.atom l.col l.joined;
 }

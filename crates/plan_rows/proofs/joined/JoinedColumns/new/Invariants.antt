@@ -5,6 +5,6 @@ use Rattle.plan_rows.proofs.joined.JoinedColumns.new.Given as goal
 -- those of the atoms so far
 abbrev pub invariant-loop-atom : goal.invariant-loop-atom
 invariant-loop-atom l = record {
-  size : length l.atoms.items ≡ l.atom;
-  found : (F : ℕ) → F < l.atom → AreJoinedIn l.bound.query.now l.bound.variables F (get_or l.atoms.items F (record { items = [] })).items;
+  size : length l.atoms ≡ l.atom;
+  found : (F : ℕ) → F < l.atom → AreJoinedIn l.bound.query.now l.bound.variables F (get_or l.atoms F []);
 }
