@@ -5,7 +5,7 @@ use Rattle.cqa_model.specs.declared.query.Query.{Query}
 use Rattle.cqa_model.specs.Database.{Table}
 use Rattle.cqa_model.specs.Unions.{AreParts}
 use Rattle.join_access.proofs.Naming.{zip-left}
-use Rattle.query_replies.specs.Classes.{IsClassOf, TellsClasses}
+use Rattle.query_replies.specs.Classes.{IsPartClassOf, TellsClasses}
 use Rattle.query_replies.specs.Names.{table_name_at}
 use Rattle.query_resolve.specs.Resolved.{IsQueryOf, AreQueriesOf}
 use Rattle.repair_back.specs.declared.reason.Reason.{Reason}
@@ -62,7 +62,7 @@ union_reasons_are_told exist old parts row is are = elim (exist old.tables parts
 
 pub union_classes_are_told : (db : List Table) (selects : List Select) (parts : List Query) → AreQueriesOf db selects parts → (reply : Reply) × TellsClasses db selects parts reply
 union_classes_are_told db selects parts are =
-    let found = zip-choose (IsClassOf db) selects (λ select m.
+    let found = zip-choose (IsPartClassOf db) selects (λ select m.
     let q = zip-left (IsQueryOf db) selects parts are.each select m in
     let c = classes_are_told q.0 select.tables in
     (c.0, record { query = q.0; resolved = q.2; told = c.1 })) in

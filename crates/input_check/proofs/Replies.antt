@@ -7,7 +7,7 @@ use Rattle.proof_check.specs.declared.reply.ProofReply.{ProofReply}
 use Rattle.proof_check.specs.declared.reply.ProofReply.TheVariants as proofs
 use Rattle.proof_check.proofs.Replies.{one_reply, sound_reply}
 use Rattle.rewrite_check.specs.Spelling.{ChecksRewriting}
-use Rattle.rewrite_check.specs.Laws.{ProvesRow}
+use Rattle.rewrite_check.specs.Laws.{ShowsCertain}
 use Rattle.rewrite_check.proofs.Unique.{checks_once}
 use Rattle.rewrite_check.proofs.Proving.{verified_proves}
 use Rattle.input_check.specs.declared.reply.CheckReply.{CheckReply}
@@ -49,7 +49,7 @@ verified_proof (proofs.BadLog fault) e = absurd (cc e)
 
 pub shown : (bytes : List ℕ) (reply : CheckReply) → ChecksInput bytes reply → reply ≡ Verified → IsShown bytes
 shown bytes reply (inl (text, check, is, checks, e)) v = record {
-  certain = λ other was. subst ProvesRow (same_text bytes text other is was) (verified_proves text (subst (ChecksRewriting text) (verified_certificate check (sym e ∙ v)) checks));
+  certain = λ other was. subst ShowsCertain (same_text bytes text other is was) (verified_proves text (subst (ChecksRewriting text) (verified_certificate check (sym e ∙ v)) checks));
   unsatisfiable = λ none. absurd (none text is);
 }
 shown bytes reply (inr (found, other, finds, e)) v = record {

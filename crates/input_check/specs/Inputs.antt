@@ -6,7 +6,7 @@ use Rattle.proof_check.specs.declared.reply.ProofReply.{ProofReply}
 use Rattle.proof_check.specs.declared.reply.ProofReply.TheVariants as proofs
 use Rattle.proof_check.specs.Verdicts.{Checks, IsUnsatisfiable}
 use Rattle.rewrite_check.specs.Spelling.{ChecksRewriting}
-use Rattle.rewrite_check.specs.Laws.{ProvesRow}
+use Rattle.rewrite_check.specs.Laws.{ShowsCertain}
 use Rattle.input_check.specs.declared.reply.CheckReply.{CheckReply}
 use Rattle.input_check.specs.declared.reply.CheckReply.TheVariants.{Verified, BadText, BadLog, BadStatement, BadBlock}
 
@@ -39,7 +39,7 @@ ChecksInput bytes reply =
 -- what an input shows that is verified: of a certificate, that its row is certain in every database that has its blocks; else that
 -- nothing satisfies its formula
 pub record IsShown (bytes : List ℕ) : Type 0 where
-  pub certain : (text : List ℕ) → IsCertificateText bytes text → ProvesRow text
+  pub certain : (text : List ℕ) → IsCertificateText bytes text → ShowsCertain text
   pub unsatisfiable : IsProofText bytes → IsUnsatisfiable bytes
 
 -- The law: an input has at most one reply.

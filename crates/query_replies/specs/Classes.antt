@@ -21,14 +21,14 @@ pub record IsClassWith (q : Query) (names : List (List ℕ)) (part : PartClass) 
   pub attacks : AreAttackLines q names part.lines
 
 -- the same of the query that is written
-pub record IsClassOf (db : List Table) (select : Select) (part : PartClass) : Type 0 where
+pub record IsPartClassOf (db : List Table) (select : Select) (part : PartClass) : Type 0 where
   pub query : Query
   pub resolved : IsQueryOf db select query
   pub told : IsClassWith query select.tables part
 
 -- one for each part
 abbrev pub AreClassesOf : List Table → List Select → List PartClass → Type 0
-AreClassesOf db selects classes = AllZip (IsClassOf db) selects classes
+AreClassesOf db selects classes = AllZip (IsPartClassOf db) selects classes
 
 -- the name of the first table that isn't strict and stands in two parts, or none where the parts are apart
 abbrev pub IsSharedName : List Table → List Query → Option (List ℕ) → Type 0

@@ -69,6 +69,7 @@ IsExactUnion parts =
 abbrev pub HasCyclicAttacks : Query → Type 0
 HasCyclicAttacks q = HasCycle q (whole q)
 
+-- the query has a plan
 abbrev pub HasPlan : Query → Type 0
 HasPlan q = (plan : List ℕ) × IsPlanOf q plan
 

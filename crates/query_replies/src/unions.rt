@@ -2,7 +2,7 @@
 
 ghost use Rattle.std.specs.Prelude.{◌≡◌, [], IfOk, IfSome, IsNone};
 ghost use Rattle.query_resolve.specs.Resolved.{AreQueriesOf, IsQueryOf};
-ghost use Rattle.query_replies.specs.Classes.{AreClassesOf, IsClassOf, TellsClasses};
+ghost use Rattle.query_replies.specs.Classes.{AreClassesOf, IsPartClassOf, TellsClasses};
 ghost use Rattle.query_replies.specs.Parts.{HasText, HaveTexts, IsFirstUnplanned, HasCyclicAttacks, TellsSqlOfParts};
 
 use crate::classes::class_of_query;
@@ -24,7 +24,7 @@ fn class_of_part(
     query: &Query,
 ) -> Result<PartClass, NoMemory>
     requires { IsQueryOf _database.now select.now query.now }
-    ensures { IfOk result (IsClassOf _database.now select.now) }
+    ensures { IfOk result (IsPartClassOf _database.now select.now) }
 {
     class_of_query(alloc, query, select.tables.as_slice())
 }

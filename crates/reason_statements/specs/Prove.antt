@@ -24,10 +24,7 @@ use Rattle.reply_text.specs.declared.reply.Reply.TheVariants.{Certificate, NoPla
 use Rattle.session_state.specs.State.{State}
 use Rattle.session_state.specs.Replying.{Replies}
 use Rattle.query_replies.specs.Kept.{kept_line}
-
--- the query has a plan
-abbrev pub HasPlan : Query → Type 0
-HasPlan q = (plan : List ℕ) × IsPlanOf q plan
+use Rattle.query_replies.specs.Parts.{HasPlan}
 
 -- the lines of the rows of a repair without a witness of a row, in the blocks that have a choice
 abbrev pub AreRejectingLines : List Table → Query → List Value → List KeptRow → Type 0

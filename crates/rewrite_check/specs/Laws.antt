@@ -21,9 +21,9 @@ ChecksOnce = (bytes : List ℕ) (a b : RewriteCheck) → ChecksRewriting bytes a
 
 -- The bytes show that a row is certain: in every database whose tables have the schemas that are written, wherever they stand,
 -- and that has the blocks.
-abbrev pub ProvesRow : List ℕ → Type 0
-ProvesRow bytes = (c : Certificate) (db : List Table) (q : Query) → SpellsCertificate bytes c → SameSchemas c.select.tables c.tables db → IsQueryOf db c.select q → HasListedBlocks q (stored db) c.nodes → IsCertain db q c.row
+abbrev pub ShowsCertain : List ℕ → Type 0
+ShowsCertain bytes = (c : Certificate) (db : List Table) (q : Query) → SpellsCertificate bytes c → SameSchemas c.select.tables c.tables db → IsQueryOf db c.select q → HasListedBlocks q (stored db) c.nodes → IsCertain db q c.row
 
 -- Bytes that are verified do.
 abbrev pub VerifiedProves : Type 0
-VerifiedProves = (bytes : List ℕ) → ChecksRewriting bytes Verified → ProvesRow bytes
+VerifiedProves = (bytes : List ℕ) → ChecksRewriting bytes Verified → ShowsCertain bytes

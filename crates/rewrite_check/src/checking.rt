@@ -8,7 +8,7 @@ ghost use Rattle.block_tree.specs.declared.cause.RewriteCheck.TheVariants.{Verif
 ghost use Rattle.block_tree.specs.Trees.{IsOrderOf};
 ghost use Rattle.block_tree.specs.Judging.{Judged};
 ghost use Rattle.rewrite_check.specs.Spelling.{ChecksRewriting};
-ghost use Rattle.rewrite_check.specs.Laws.{ProvesRow};
+ghost use Rattle.rewrite_check.specs.Laws.{ShowsCertain};
 
 use crate::certificate::Certificate;
 use crate::reading::read;
@@ -47,7 +47,7 @@ pub fn check_rewriting(alloc: Global, bytes: &[u8]) -> Result<RewriteCheck, NoMe
     // No other answer is right.
     ensures only { (reply : Reply) → ChecksRewriting bytes.now reply → IfOk result (λ r. r ≡ reply) }
     // Where it is verified, its row is certain in every database whose tables have the schemas that are written, and that has the blocks.
-    ensures sound { IfOk result (λ r. r ≡ Verified → ProvesRow bytes.now) }
+    ensures sound { IfOk result (λ r. r ≡ Verified → ShowsCertain bytes.now) }
 {
     match read(alloc, bytes) {
         Ok(certificate) => {

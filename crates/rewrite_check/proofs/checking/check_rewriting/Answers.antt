@@ -2,7 +2,7 @@ use Rattle.std.proofs.Common.{◌≡◌, ap, ◌∙◌, subst}
 use Rattle.std.proofs.lemmas.Result.{IfOk-weaker}
 use Rattle.block_tree.specs.declared.cause.RewriteCheck.TheVariants.{BadText, Verified}
 use Rattle.rewrite_check.specs.Spelling.{ChecksRewriting}
-use Rattle.rewrite_check.specs.Laws.{ProvesRow}
+use Rattle.rewrite_check.specs.Laws.{ShowsCertain}
 use Rattle.rewrite_check.specs.Reading.{IfRefused}
 use Rattle.rewrite_check.proofs.Kept.{spelled_claim, spelled_order}
 use Rattle.rewrite_check.proofs.Outcome.{text_or_judged}
@@ -27,7 +27,7 @@ returns-in-Ok-clause-only c = λ reply is.
 pub returns-in-Ok-clause-sound : goal.returns-in-Ok-clause-sound
 returns-in-Ok-clause-sound c =
     let bytes = c.args.bytes.now in
-    IfOk-weaker c.judged-said.result (ChecksRewriting bytes) (λ r. r ≡ Verified → ProvesRow bytes) (λ r h e. verified_proves bytes (subst (ChecksRewriting bytes) e h)) (text_or_judged bytes c.in-Ok.certificate c.judged-said.result c.in-Ok.ensures.spelled c.judged-said.ensures)
+    IfOk-weaker c.judged-said.result (ChecksRewriting bytes) (λ r. r ≡ Verified → ShowsCertain bytes) (λ r h e. verified_proves bytes (subst (ChecksRewriting bytes) e h)) (text_or_judged bytes c.in-Ok.certificate c.judged-said.result c.in-Ok.ensures.spelled c.judged-said.ensures)
 
 pub returns-in-Err-Refused-clause-only : goal.returns-in-Err-Refused-clause-only
 returns-in-Err-Refused-clause-only c = λ reply is.
