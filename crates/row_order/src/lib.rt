@@ -1,5 +1,5 @@
-//! Rows by their key values: the order of a table's rows and how rows are put in it, values of rows, and first key values that
-//! are looked for.
+//! Rows by their key values: the order of a table's rows and how rows are put in it, values of rows, first key values that
+//! are looked for, and lists of a bounded number of values.
 #![tactic(auto)]
 
 mod cells;
