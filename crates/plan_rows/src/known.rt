@@ -69,7 +69,11 @@ fn told_by_row<'b>(
 }
 
 /// The value that some row taken tells of a column.
-fn told_by_taken<'b>(setting: &Setting<'_, '_>, taken: &Taken<'b>, column: ColRef) -> Option<&'b Value>
+fn told_by_taken<'b>(
+    setting: &Setting<'_, '_>,
+    taken: &Taken<'b>,
+    column: ColRef,
+) -> Option<&'b Value>
     requires { IsInRange setting.now.bound.now.query.now.atoms column }
     ensures { IfSome result (λ value. (y : List Cell) → AgreesAll setting.now.bound.now.query.now column.atom y (placed taken.now) → slice_index_or y column.col nothing ≡ value.now) }
 {

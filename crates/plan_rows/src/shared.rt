@@ -74,7 +74,11 @@ fn add_shared(
 }
 
 /// The columns of atoms that are linked to columns of others.
-fn shared_of(setting: &Setting<'_, '_>, front: &[u32], rest: &[u32]) -> Result<Items<ColRef>, NoMemory>
+fn shared_of(
+    setting: &Setting<'_, '_>,
+    front: &[u32],
+    rest: &[u32],
+) -> Result<Items<ColRef>, NoMemory>
     ensures { IfOk result (HasShared setting.now.bound.now.query.now front.now rest.now) }
 {
     let mut columns = Vec::new(setting.alloc);
@@ -89,7 +93,10 @@ fn shared_of(setting: &Setting<'_, '_>, front: &[u32], rest: &[u32]) -> Result<I
 /// # Errors
 ///
 /// `NoMemory` where memory is refused.
-pub fn shared_columns(setting: &Setting<'_, '_>, order: &[u32]) -> Result<Vec<Items<ColRef>>, NoMemory>
+pub fn shared_columns(
+    setting: &Setting<'_, '_>,
+    order: &[u32],
+) -> Result<Vec<Items<ColRef>>, NoMemory>
     ensures { IfOk result (λ shared. AreSharedInParts setting.now.bound.now.query.now order.now shared.items) }
 {
     let mut shared = Vec::new(setting.alloc);
