@@ -6,7 +6,7 @@ use Rattle.cqa_model.specs.Repairs.{SharesKey}
 use Rattle.cqa_model.specs.OneTable.{SomeBlockFits}
 use Rattle.plan_rows.specs.Over.{query_of, rows_before}
 use Rattle.plan_rows.specs.declared.steps.Step.{Step}
-use Rattle.fo_plan.specs.Enough.{row_at_place, IsFirstOfBlock, WholeHas, IsBlockPassed, AreSought, AreReached, IsNextBlock}
+use Rattle.fo_plan.specs.Enough.{row_at_place, IsFirstOfBlock, WholeHas, IsBlockPassed, AreSought, AreReached, IsNextSought}
 use Rattle.fo_plan.specs.Holding.{PlanHoldsWith}
 use Rattle.fo_plan.specs.Giving.{IsAnswerRow, StepGives, IsAdded}
 use Rattle.fo_plan.specs.declared.enough.Blocks.{Blocks}
@@ -36,7 +36,7 @@ module _ (s : Blocks) (Q : List Value → Type 0) (R : List Value → List Value
     all = λ row at l g. absurd (passed 0 start at row h (omega arith) l g);
   }
 
-  module _ (from on : ℕ) (block old new more : List (List Value)) (h : AddedBefore s Q R from old new) (n : IsNextBlock s from block on)
+  module _ (from on : ℕ) (block old new more : List (List Value)) (h : AddedBefore s Q R from old new) (n : IsNextSought s from block on)
       (add : IsAdded (λ row. Q row × ((y : List Value) → Contains block y → R row y)) new more) where
     -- what begins before the next place begins before this one, or it is the block that was found
     split : (row : List Value) (at : ℕ) → at < on → GivesFrom s Q R at row → (at < from) ⊎ (Q row × ((y : List Value) → Contains block y → R row y))

@@ -19,7 +19,7 @@ use Rattle.cqa_model.proofs.Repairs.{shares-self}
 use Rattle.cqa_model.proofs.Values.{dec_by}
 use Rattle.cqa_model.proofs.Views.{linked-self}
 use Rattle.plan_rows.specs.Taking.{taken_value}
-use Rattle.plan_rows.specs.Fitting.{GivesAt}
+use Rattle.plan_rows.specs.Fitting.{GivesCandidate}
 use Rattle.plan_rows.specs.Underway.{atoms_of, IsUnderway}
 use Rattle.plan_rows.specs.declared.course.Course.{Course}
 use Rattle.plan_rows.proofs.Suiting.{suits-from, gives-from}
@@ -82,7 +82,7 @@ module _ (s : Course) (taken others : List Placed) (plan : List ℕ) (u : IsUnde
   in-range i l = (s.setting.bound.now.query.now.kept.answer_in_range (answer_at s.setting.bound.now.query.now i) (Contains-get_or s.setting.bound.now.query.now.answer i (record { atom = 0; col = 0 }) l)).1
 
   -- so it has the answers of the rows taken
-  has-answers : (row : List Value) (t : Placed) → Contains taken t → GivesAt s.setting.bound.now.query.now t.atom t.row (mixed row)
+  has-answers : (row : List Value) (t : Placed) → Contains taken t → GivesCandidate s.setting.bound.now.query.now t.atom t.row (mixed row)
   has-answers row t m i l e =
       let c = answer_at s.setting.bound.now.query.now i in
       let w = value-taken taken c t m (sym e) in
@@ -132,7 +132,7 @@ gives-none s taken plan u apart empty others left row v long g = go (length left
           (
             answer.0,
             (λ t n. elim (mem-cases t (record { atom = F; row = x }) others n) [
-              | inl h ↦ subst (λ (z : Placed). GivesAt s.setting.bound.now.query.now z.atom z.row row) h (gives-from s.setting.bound.now.query.now others F x row own.0)
+              | inl h ↦ subst (λ (z : Placed). GivesCandidate s.setting.bound.now.query.now z.atom z.row row) h (gives-from s.setting.bound.now.query.now others F x row own.0)
               | inr k ↦ answer.1 t k
             ]),
           ),

@@ -31,7 +31,7 @@ use Rattle.plan_rows.specs.Links.{LeadsTo}
 use Rattle.plan_rows.specs.Over.{query_of, stored_rows, rows_before}
 use Rattle.plan_rows.specs.declared.steps.Step.{Step}
 use Rattle.plan_rows.proofs.Reaching.{held_rows_are_reached}
-use Rattle.fo_plan.specs.Enough.{IsEnough, row_at_place, IsFirstOf, AreReached}
+use Rattle.fo_plan.specs.Enough.{IsEnough, row_at_place, IsFirstBlockOf, AreReached}
 use Rattle.fo_plan.specs.FirstBlock.{IsFirstWith}
 use Rattle.fo_plan.specs.Holding.{PlanHoldsWith}
 use Rattle.fo_plan.specs.declared.enough.Blocks.{Blocks}
@@ -39,7 +39,7 @@ use Rattle.fo_plan.proofs.Passing.{first-place, at-some}
 use Rattle.fo_plan.proofs.Reached.{held-reached}
 
 -- there is a first one exactly where there is some
-pub first-some : (key : List ℕ) (rows : List (List Value)) (P : List Value → Type 0) (found : Option (List (List Value))) → MatchOption found (SomeBlockFits key rows P → ⊥) (IsFirstOf key rows P) → IsTrue (is_some found) ↔ SomeBlockFits key rows P
+pub first-some : (key : List ℕ) (rows : List (List Value)) (P : List Value → Type 0) (found : Option (List (List Value))) → MatchOption found (SomeBlockFits key rows P → ⊥) (IsFirstBlockOf key rows P) → IsTrue (is_some found) ↔ SomeBlockFits key rows P
 first-some key rows P None none = ((λ e. absurd (false≢true e)), (λ s. absurd (none s)))
 first-some key rows P (Some block) first = (
   (λ e. at-some key rows P first.at first.is.there (λ y m s. first.all y ((first.is.exactly y).1 (m, s)))),
@@ -89,7 +89,7 @@ module _ (key : List ℕ) (rows : List (List Value)) (P : List Value → Type 0)
       first_from [] (blocks_of key rows) are (λ c k. absurd (mem-nil c k)) b.0 b.1 (λ y k. all y (row_in key rows (blocks_of key rows) are b.0 y b.1 k) (are.alike b.0 b.1 x y b.2 k))
 
 module _ (key : List ℕ) (rows part : List (List Value)) (fits P : List Value → Type 0) (in_order : IsStrictlySortedBy (block_cmp key) rows) (enough : IsEnough key rows fits part) (strong : (y : List Value) → P y → fits y)
-    (sorted : IsStrictlySortedBy (block_cmp key) part) (found : List (List Value)) (f : IsFirstOf key part P found) where
+    (sorted : IsStrictlySortedBy (block_cmp key) part) (found : List (List Value)) (f : IsFirstBlockOf key part P found) where
   abbrev x : List Value
   x = row_at_place part f.at
 
@@ -177,9 +177,9 @@ module _ (step : Step) (s : Blocks) (row : List Value) (h : AreReached step (Som
   abbrev P : List Value → Type 0
   P = PlanHoldsWith step row
 
-  pub first-holds : IsStrictlySortedBy (block_cmp key) rows → (found : Option (List (List Value))) → MatchOption found (SomeBlockFits s.key.now s.rows P → ⊥) (IsFirstOf s.key.now s.rows P) →
+  pub first-holds : IsStrictlySortedBy (block_cmp key) rows → (found : Option (List (List Value))) → MatchOption found (SomeBlockFits s.key.now s.rows P → ⊥) (IsFirstBlockOf s.key.now s.rows P) →
       MatchOption found (SomeBlockFits key rows P → ⊥) (λ block. SomeBlockFits key rows P × IsFirstWith key rows P block)
   first-holds in_order None none = λ t. none ((held-reached step s row h).1.1 t)
   first-holds in_order (Some block) f = first-in_table key rows s.rows (LeadsTo (query_of step) (stored_rows step) (Some row) (rows_before step) h.links step.atom) P in_order h.enough
       (λ y p. (held_rows_are_reached (query_of step) (stored_rows step) row (rows_before step) step.atom step.rest.now h.links y h.behind p).0)
-      (subst (λ k. IsStrictlySortedBy (block_cmp k) s.rows) h.key s.in_order) block (subst (λ k. IsFirstOf k s.rows P block) h.key f)
+      (subst (λ k. IsStrictlySortedBy (block_cmp k) s.rows) h.key s.in_order) block (subst (λ k. IsFirstBlockOf k s.rows P block) h.key f)

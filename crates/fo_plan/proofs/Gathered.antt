@@ -14,7 +14,7 @@ use Rattle.cqa_model.proofs.Classic.{mem-head, mem-tail, mem-nil, mem-cases}
 use Rattle.cqa_model.proofs.Exactness.{map_is}
 use Rattle.join_access.specs.Deciding.{of_all}
 use Rattle.plan_rows.specs.Taking.{taken_value, AreAgreed}
-use Rattle.plan_rows.specs.Fitting.{Suits, GivesAt}
+use Rattle.plan_rows.specs.Fitting.{Suits, GivesCandidate}
 use Rattle.plan_rows.specs.Left.{IsAnswerSettled}
 use Rattle.plan_rows.specs.Links.{RowHolds}
 use Rattle.fo_plan.specs.Holding.{AllHold}
@@ -54,7 +54,7 @@ module _ (q : Query) (tables : List (List (List Value))) (taken : List Placed) (
                 (
                   g.0.0,
                   (λ t m. elim (mem-cases t (record { atom = F; row = first }) taken m) [
-                    | inl e ↦ subst (λ z. GivesAt q z.atom z.row row) e (gives-from q taken F first row one.0)
+                    | inl e ↦ subst (λ z. GivesCandidate q z.atom z.row row) e (gives-from q taken F first row one.0)
                     | inr n ↦ g.0.1 t n
                   ]),
                 ),

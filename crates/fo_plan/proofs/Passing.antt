@@ -12,7 +12,7 @@ use Rattle.cqa_model.specs.Database.{block_cmp}
 use Rattle.cqa_model.proofs.BlockOrder.{grouped}
 use Rattle.cqa_model.proofs.Repairs.{shares-self, shares-sym, shares-trans, dec_shares}
 use Rattle.plan_rows.specs.Wanted.{IsWanted}
-use Rattle.fo_plan.specs.Enough.{IsEnough, row_at_place, IsFirstOfBlock, WholeHas, IsFirstOf, IsBlockPassed, AreSought, IsNextBlock}
+use Rattle.fo_plan.specs.Enough.{IsEnough, row_at_place, IsFirstOfBlock, WholeHas, IsFirstBlockOf, IsBlockPassed, AreSought, IsNextSought}
 use Rattle.fo_plan.specs.declared.enough.Blocks.{Blocks}
 
 -- what is enough of a table has a block with a property exactly where the table has one, if rows with it fit
@@ -64,7 +64,7 @@ module _ (s : Blocks) where
     pub none-starts : (start : ℕ) → IsBlockPassed s 0 start → NoneBefore P start
     none-starts start h at l there first all = passed-has 0 start at h (omega arith) l there first all
 
-    pub none-on : (from on : ℕ) (block : List (List Value)) → NoneBefore P from → IsNextBlock s from block on → (((y : List Value) → Contains block y → P y) → ⊥) → NoneBefore P on
+    pub none-on : (from on : ℕ) (block : List (List Value)) → NoneBefore P from → IsNextSought s from block on → (((y : List Value) → Contains block y → P y) → ⊥) → NoneBefore P on
     none-on from on block h n off at l there first all = go (dec_lt at from) (dec_lt at n.at) (dec_lt n.at at)
       where
         go : Dec (at < from) → Dec (at < n.at) → Dec (n.at < at) → ⊥
@@ -76,7 +76,7 @@ module _ (s : Blocks) where
             off (λ y m. let e = (n.is.exactly y).0 m in all y e.0 (subst (λ k. SharesKey s.key.now (row_at_place s.rows k) y) (sym same) e.1))
 
     -- the next block is the first one with the property, where it has it
-    pub next-first : (from on : ℕ) (block : List (List Value)) → NoneBefore P from → IsNextBlock s from block on → ((y : List Value) → Contains block y → P y) → IsFirstOf s.key.now s.rows P block
+    pub next-first : (from on : ℕ) (block : List (List Value)) → NoneBefore P from → IsNextSought s from block on → ((y : List Value) → Contains block y → P y) → IsFirstBlockOf s.key.now s.rows P block
     next-first from on block h n all = record { at = n.at; is = n.is; all = all; none = λ j l there. go j l there (dec_lt j from) }
       where
         go : (j : ℕ) → j < n.at → j < length s.rows → Dec (j < from) → IsFirstOfBlock s.key.now s.rows j → WholeHas s.key.now s.rows P j → ⊥
@@ -142,5 +142,5 @@ pub found-in-table : (s : Blocks) (key : List ℕ) (rows : List (List Value)) (f
 found-in-table s key rows fits e h P strong = subst (λ k. SomeBlockFits k s.rows P ↔ SomeBlockFits key rows P) (sym e) (part-some key rows s.rows fits h P strong)
 
 -- the place from which to go on is nearer to the end
-pub goes-on : (s : Blocks) (from on : ℕ) (block : List (List Value)) → IsNextBlock s from block on → length s.rows - on < length s.rows - from
+pub goes-on : (s : Blocks) (from on : ℕ) (block : List (List Value)) → IsNextSought s from block on → length s.rows - on < length s.rows - from
 goes-on s from on block n = let there = n.is.there in let low = n.low in let high = n.high in omega (arith, there, low, high)

@@ -14,7 +14,7 @@ use Rattle.table_blocks.proofs.Spanning.{sorted-part}
 use Rattle.plan_rows.specs.Wanted.{IsWanted, NoneWanted}
 use Rattle.plan_rows.specs.declared.wanted.Wanted.{Wanted}
 use Rattle.plan_rows.specs.declared.wanted.Wanted.TheVariants.{All}
-use Rattle.fo_plan.specs.Enough.{row_at_place, IsFirstOfBlock, IsBlockAt, IsBlockPassed, IsNextBlock, IsSpot}
+use Rattle.fo_plan.specs.Enough.{row_at_place, IsFirstOfBlock, IsBlockAt, IsBlockPassed, IsNextSought, IsSpot}
 use Rattle.fo_plan.specs.declared.enough.Blocks.{Blocks}
 use Rattle.fo_plan.specs.declared.enough.Spot.{Spot}
 
@@ -99,7 +99,7 @@ module _ (key : List ℕ) (rows : List (List Value)) (sorted : IsStrictlySortedB
 
 -- it is the next one
 pub walked-next : (s : Blocks) (sorted : IsStrictlySortedBy (block_cmp s.key.now) s.rows) (at : ℕ) (leads : at < length s.rows → IsFirstOfBlock s.key.now s.rows at) (rest : List (List Value)) (is : rest ≡ drop at s.rows) (end : ℕ) (behind : 0 < end)
-    (within : end ≤ length rest) (ends : (i : ℕ) → 0 ≤ i → i < length rest → SharesKey s.key.now (row_at_place rest 0) (row_at_place rest i) ↔ (i < end)) (block : List (List Value)) → block ≡ take end rest → IsNextBlock s at block (at + end)
+    (within : end ≤ length rest) (ends : (i : ℕ) → 0 ≤ i → i < length rest → SharesKey s.key.now (row_at_place rest 0) (row_at_place rest i) ↔ (i < end)) (block : List (List Value)) → block ≡ take end rest → IsNextSought s at block (at + end)
 walked-next s sorted at leads rest is end behind within ends block e = record {
   at = at;
   is = walked-block s.key.now s.rows sorted at leads rest is end behind within ends block e;
@@ -110,7 +110,7 @@ walked-next s sorted at leads rest is end behind within ends block e = record {
 }
 
 -- what is the next block from a place on is so from an earlier one, if nothing is left out between
-pub found-next : (s : Blocks) (from at on : ℕ) (block : List (List Value)) → from ≤ at → IsBlockPassed s from at → IsNextBlock s at block on → IsNextBlock s from block on
+pub found-next : (s : Blocks) (from at on : ℕ) (block : List (List Value)) → from ≤ at → IsBlockPassed s from at → IsNextSought s at block on → IsNextSought s from block on
 found-next s from at on block low passed n = record {
   at = n.at;
   is = n.is;
@@ -125,7 +125,7 @@ found-next s from at on block low passed n = record {
     go k l h (no b) = n.before k (omega (arith, b)) h
 
 -- a place behind a block
-pub spot-behind : (s : Blocks) (from : ℕ) (spot : Spot) (block : List (List Value)) → IsNextBlock s from block spot.place → spot.place ≤ length s.rows → IfSome spot.last (λ at. at < spot.place) →
+pub spot-behind : (s : Blocks) (from : ℕ) (spot : Spot) (block : List (List Value)) → IsNextSought s from block spot.place → spot.place ≤ length s.rows → IfSome spot.last (λ at. at < spot.place) →
     spot.rest ≡ drop spot.place s.rows → (spot.place < length s.rows → IsFirstOfBlock s.key.now s.rows spot.place) → IsSpot s spot
 spot-behind s from spot block n within last rest begins = record {
   last = go spot.last last;

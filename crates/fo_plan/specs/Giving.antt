@@ -5,7 +5,7 @@ use Rattle.cqa_model.specs.declared.query.Query.{Query}
 use Rattle.cqa_model.specs.Database.{stored}
 use Rattle.cqa_model.specs.Plan.{Placed, PlanHolds}
 use Rattle.plan_rows.specs.Taking.{placed}
-use Rattle.plan_rows.specs.Fitting.{GivesAt}
+use Rattle.plan_rows.specs.Fitting.{GivesCandidate}
 use Rattle.plan_rows.specs.Over.{query_of, stored_rows, rows_before}
 use Rattle.plan_rows.specs.declared.steps.Rest.{Rest}
 use Rattle.plan_rows.specs.declared.steps.Step.{Step}
@@ -17,7 +17,7 @@ AreAllAtoms q taken plan = (F : ℕ) → F < length q.atoms → Contains plan F 
 
 -- a row has the values of the rows taken in their answer columns
 abbrev pub HasAnswers : Query → List Placed → List Value → Type 0
-HasAnswers q taken row = (t : Placed) → Contains taken t → GivesAt q t.atom t.row row
+HasAnswers q taken row = (t : Placed) → Contains taken t → GivesCandidate q t.atom t.row row
 
 -- a row of the answer's length that has them
 abbrev pub IsAnswerRow : Query → List Placed → List Value → Type 0

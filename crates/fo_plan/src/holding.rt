@@ -7,7 +7,7 @@ ghost use Rattle.cqa_model.specs.Plan.{HoldsOver, PlanHolds};
 ghost use Rattle.plan_rows.specs.Left.{AreQueryAtoms};
 ghost use Rattle.plan_rows.specs.Over.{query_of, stored_rows, rows_before};
 ghost use Rattle.plan_rows.specs.Underway.{IsMemoKey, IsRight};
-ghost use Rattle.fo_plan.specs.Enough.{AreSought, IsFirstOf};
+ghost use Rattle.fo_plan.specs.Enough.{AreSought, IsFirstBlockOf};
 ghost use Rattle.fo_plan.specs.Holding.{PlanRestHolds, PlanHoldsWith, AllHoldWith};
 
 use crate::enough::Blocks;
@@ -83,7 +83,7 @@ pub(crate) fn first_of<'x, 'a>(
 ) -> Option<Rows<'a>>
     requires sought { AreSought blocks.now (PlanHoldsWith step.now row.now) }
     requires memo { IsRight step.now.course.now memo.old }
-    ensures first { MatchOption result (SomeBlockFits blocks.now.key.now blocks.now.rows (PlanHoldsWith step.now row.now) → ⊥) (IsFirstOf blocks.now.key.now blocks.now.rows (PlanHoldsWith step.now row.now)) }
+    ensures first { MatchOption result (SomeBlockFits blocks.now.key.now blocks.now.rows (PlanHoldsWith step.now row.now) → ⊥) (IsFirstBlockOf blocks.now.key.now blocks.now.rows (PlanHoldsWith step.now row.now)) }
     ensures memo { IsRight step.now.course.now memo.new }
 {
     let mut spot = blocks.start();

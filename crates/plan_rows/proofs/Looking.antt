@@ -6,12 +6,12 @@ use Rattle.cqa_value.specs.declared.value.Value.{Value}
 use Rattle.cqa_model.specs.declared.query.Query.{Query}
 use Rattle.cqa_model.specs.Plan.{Placed}
 use Rattle.plan_rows.specs.Links.{LeadsTo}
-use Rattle.plan_rows.specs.Places.{AreThere, IsRowPassed}
+use Rattle.plan_rows.specs.Places.{AreEnoughPlaces, IsRowPassed}
 use Rattle.plan_rows.specs.declared.places.Places.{Places}
 use Rattle.plan_rows.proofs.Reaching.{leads-may}
 
 -- where all rows are that may fit, all are to which rows of links lead
-pub there-led : (q : Query) (tables : List (List (List Value))) (row : Option (List Value)) (taken : List Placed) (links : List ℕ) (F : ℕ) (rows : List (List Value)) (s : Places) → AreThere q tables row taken [] F rows s → AreThere q tables row taken links F rows s
+pub there-led : (q : Query) (tables : List (List (List Value))) (row : Option (List Value)) (taken : List Placed) (links : List ℕ) (F : ℕ) (rows : List (List Value)) (s : Places) → AreEnoughPlaces q tables row taken [] F rows s → AreEnoughPlaces q tables row taken links F rows s
 there-led q tables row taken links F rows s h = record {
   within = h.within;
   others = λ i l o f. h.others i l o (leads-may q tables row taken links F (get_or rows i []) f);
@@ -23,7 +23,7 @@ abbrev pub IsUpTo : List (List Value) → (List Value → Type 0) → (ℕ → T
 IsUpTo rows L P at = (i : ℕ) → i < length rows → i < at → L (get_or rows i []) → P i
 
 -- what is shown place by place is so of each row to which the links lead
-module _ (q : Query) (tables : List (List (List Value))) (row : Option (List Value)) (taken : List Placed) (links : List ℕ) (F : ℕ) (rows : List (List Value)) (s : Places) (h : AreThere q tables row taken links F rows s) (P : ℕ → Type 0) where
+module _ (q : Query) (tables : List (List (List Value))) (row : Option (List Value)) (taken : List Placed) (links : List ℕ) (F : ℕ) (rows : List (List Value)) (s : Places) (h : AreEnoughPlaces q tables row taken links F rows s) (P : ℕ → Type 0) where
   pub up-first : IsUpTo rows (LeadsTo q tables row taken links F) P s.start
   up-first i l low f = absurd (h.others i l (inl low) f)
 

@@ -13,7 +13,7 @@ use Rattle.cqa_model.proofs.Views.{linked-self}
 use Rattle.cqa_value.specs.Values.{nothing}
 use Rattle.join_access.specs.Deciding.{of_all}
 use Rattle.plan_rows.specs.Taking.{AreAgreed}
-use Rattle.plan_rows.specs.Fitting.{AgreesInFirst, AgreesAll, Suits, GivesAt}
+use Rattle.plan_rows.specs.Fitting.{AgreesInFirst, AgreesAll, Suits, GivesCandidate}
 
 module _ (q : Query) (F : ℕ) (x : List Value) (taken : List Placed) (t : Placed) (ts : List Placed) (e : taken ≡ t ∷ ts) where
   pub agrees-more : (a : Bool) → (a ≡ true) ↔ AgreesAll q F x ts → AgreesInFirst q F x t.atom t.row (atom_at q F).width → (a ≡ true) ↔ AgreesAll q F x taken
@@ -32,13 +32,13 @@ module _ (q : Query) (taken : List Placed) (F : ℕ) (x : List Value) where
   pub tests-of : Suits q taken F x → All (TestHolds F x) q.conds
   tests-of s = of_all (TestHolds F x) q.conds s.tests
 
-  pub fits-of : (row : List Value) → Suits q taken F x → GivesAt q F x row → Fits q row taken F x
+  pub fits-of : (row : List Value) → Suits q taken F x → GivesCandidate q F x row → Fits q row taken F x
   fits-of row s g = record { agrees = s.agrees; tests = s.tests; answers = g }
 
   pub suits-from : (row : List Value) → Fits q row taken F x → Suits q taken F x
   suits-from row f = record { agrees = f.agrees; tests = f.tests }
 
-  pub gives-from : (row : List Value) → Fits q row taken F x → GivesAt q F x row
+  pub gives-from : (row : List Value) → Fits q row taken F x → GivesCandidate q F x row
   gives-from row f = f.answers
 
   -- rows of one atom still agree once a row that fits is taken

@@ -11,7 +11,7 @@ use Rattle.cqa_model.specs.Query.{atom_at}
 use Rattle.cqa_model.specs.Plan.{Placed, TestHolds}
 use Rattle.cqa_model.proofs.Classic.{mem-head, mem-tail}
 use Rattle.join_access.specs.Deciding.{of_all}
-use Rattle.plan_rows.specs.Fitting.{AgreesInFirst, AgreesAll, Suits, GivesAt}
+use Rattle.plan_rows.specs.Fitting.{AgreesInFirst, AgreesAll, Suits, GivesCandidate}
 use Rattle.plan_rows.specs.Knowing.{MayFit}
 
 -- a value that is read of a row, if there is one
@@ -41,7 +41,7 @@ module _ (q : Query) (taken : List Placed) (F : ℕ) (y : List Value) where
   may-agree None f t m = f.agrees t (mem-tail t (record { atom = F; row = y }) taken m)
   may-agree (Some row) f t m = f.agrees t (mem-tail t (record { atom = F; row = y }) taken m)
 
-  pub may-answer : (row : List Value) → MayFit q (Some row) taken F y → GivesAt q F y row
+  pub may-answer : (row : List Value) → MayFit q (Some row) taken F y → GivesCandidate q F y row
   may-answer row f = f.answers
 
   pub may-suit : (row : Option (List Value)) → MayFit q row taken F y → Suits q taken F y

@@ -34,5 +34,5 @@ pub record Suits (q : Query) (taken : List Placed) (F : ℕ) (x : List Value) : 
 abbrev pub GivesFirst : Query → ℕ → List Value → List Value → ℕ → Type 0
 GivesFirst q F x row n = (i : ℕ) → i < n → (answer_at q i).atom ≡ F → slice_index_or x (answer_at q i).col nothing ≡ slice_index_or row i nothing
 
-abbrev pub GivesAt : Query → ℕ → List Value → List Value → Type 0
-GivesAt q F x row = GivesFirst q F x row (length q.answer)
+abbrev pub GivesCandidate : Query → ℕ → List Value → List Value → Type 0
+GivesCandidate q F x row = GivesFirst q F x row (length q.answer)

@@ -8,7 +8,7 @@ use Rattle.plan_rows.specs.Wanted.{IsWanted, NoneWanted}
 use Rattle.plan_rows.specs.declared.places.Places.{Places}
 
 -- to no row outside of the places do rows of the links lead, and each to which they lead is wanted
-pub record AreThere (q : Query) (tables : List (List (List Value))) (row : Option (List Value)) (taken : List Placed) (links : List ℕ) (F : ℕ) (rows : List (List Value)) (s : Places) : Type 0 where
+pub record AreEnoughPlaces (q : Query) (tables : List (List (List Value))) (row : Option (List Value)) (taken : List Placed) (links : List ℕ) (F : ℕ) (rows : List (List Value)) (s : Places) : Type 0 where
   pub within : s.end ≤ length rows
   pub others : (i : ℕ) → i < length rows → (i < s.start) ⊎ (s.end ≤ i) → LeadsTo q tables row taken links F (slice_index_or rows i []) → ⊥
   pub known : (i : ℕ) → i < length rows → LeadsTo q tables row taken links F (slice_index_or rows i []) → IsWanted s.wanted i

@@ -9,7 +9,7 @@ ghost use Rattle.cqa_model.specs.Query.{atom_at};
 ghost use Rattle.cqa_model.specs.Plan.{TestHolds};
 ghost use Rattle.row_order.specs.Spans.{first_key};
 ghost use Rattle.plan_rows.specs.Taking.{placed};
-ghost use Rattle.plan_rows.specs.Fitting.{ColumnAgrees, AgreesAll, GivesAt};
+ghost use Rattle.plan_rows.specs.Fitting.{ColumnAgrees, AgreesAll, GivesCandidate};
 ghost use Rattle.plan_rows.specs.Knowing.{MayFit};
 ghost use Rattle.plan_rows.specs.Over.{look_query, look_taken};
 
@@ -88,7 +88,7 @@ fn told_by_taken<'b>(
 
 /// The value that a candidate tells of a column of the answer.
 fn told_by_answer<'b>(query: &Query, row: &'b Row, column: ColRef) -> Option<&'b Value>
-    ensures { IfSome result (λ value. (y : List Cell) → GivesAt query.now column.atom y row.now → slice_index_or y column.col nothing ≡ value.now) }
+    ensures { IfSome result (λ value. (y : List Cell) → GivesCandidate query.now column.atom y row.now → slice_index_or y column.col nothing ≡ value.now) }
 {
     let columns = query.answer.as_slice();
     for at in 0..columns.len() as u32 {

@@ -25,11 +25,11 @@ pub struct Places<'x> {
 
 impl<'x> Places<'x> {
     ghost use Rattle.plan_rows.specs.Links.{AreLinks, atoms_on};
-    ghost use Rattle.plan_rows.specs.Places.{AreThere, IsRowPassed};
+    ghost use Rattle.plan_rows.specs.Places.{AreEnoughPlaces, IsRowPassed};
 
     /// The places of the rows with the key values that are known.
     fn by_key(look: &Look<'x>, row: Option<&'x Row>) -> Places<'x>
-        ensures { AreThere (look_query look.now) (look_tables look.now) (option_copied row.entry) (look_taken look.now) [] look.now.atom (look_rows look.now) result }
+        ensures { AreEnoughPlaces (look_query look.now) (look_tables look.now) (option_copied row.entry) (look_taken look.now) [] look.now.atom (look_rows look.now) result }
     {
         let bound = look.setting.bound;
         let values = known_values(look, row, bound.key_of(look.atom));
@@ -48,7 +48,7 @@ impl<'x> Places<'x> {
         path: Option<&'x RowIndex<'x>>,
     ) -> Option<Places<'x>>
         requires path { IfSome path (λ x. x.now.rows ≡ look_rows look.now) }
-        ensures { IfSome result (AreThere (look_query look.now) (look_tables look.now) (option_copied row.entry) (look_taken look.now) [] look.now.atom (look_rows look.now)) }
+        ensures { IfSome result (AreEnoughPlaces (look_query look.now) (look_tables look.now) (option_copied row.entry) (look_taken look.now) [] look.now.atom (look_rows look.now)) }
     {
         let index = path?;
         let values = known_values(look, row, index.columns());
@@ -65,7 +65,7 @@ impl<'x> Places<'x> {
     /// Where the rows of an atom are that may fit the rows taken.
     pub fn new(look: &Look<'x>, row: Option<&'x Row>, path: Option<&'x RowIndex<'x>>) -> Places<'x>
         requires path { IfSome path (λ x. x.now.rows ≡ look_rows look.now) }
-        ensures { AreThere (look_query look.now) (look_tables look.now) (option_copied row.entry) (look_taken look.now) [] look.now.atom (look_rows look.now) result }
+        ensures { AreEnoughPlaces (look_query look.now) (look_tables look.now) (option_copied row.entry) (look_taken look.now) [] look.now.atom (look_rows look.now) result }
     {
         match Places::by_index(look, row, path) {
             Some(places) => places,
@@ -82,7 +82,7 @@ impl<'x> Places<'x> {
     ) -> Option<Places<'x>>
         requires path { IfSome path (λ x. x.now.rows ≡ look_rows look.now) }
         requires links { AreLinks (look_query look.now) look.now.setting.now.bound.now.db.now links.now }
-        ensures { IfSome result (AreThere (look_query look.now) (look_tables look.now) (option_copied row.entry) (look_taken look.now) (atoms_on links.now) look.now.atom (look_rows look.now)) }
+        ensures { IfSome result (AreEnoughPlaces (look_query look.now) (look_tables look.now) (option_copied row.entry) (look_taken look.now) (atoms_on links.now) look.now.atom (look_rows look.now)) }
     {
         if links.is_empty() {
             return None;
@@ -107,7 +107,7 @@ impl<'x> Places<'x> {
     ) -> Places<'x>
         requires path { IfSome path (λ x. x.now.rows ≡ look_rows look.now) }
         requires links { AreLinks (look_query look.now) look.now.setting.now.bound.now.db.now links.now }
-        ensures { AreThere (look_query look.now) (look_tables look.now) (option_copied row.entry) (look_taken look.now) (atoms_on links.now) look.now.atom (look_rows look.now) result }
+        ensures { AreEnoughPlaces (look_query look.now) (look_tables look.now) (option_copied row.entry) (look_taken look.now) (atoms_on links.now) look.now.atom (look_rows look.now) result }
     {
         if let Some(places) = Places::by_index(look, row, path) {
             return places;

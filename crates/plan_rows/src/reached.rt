@@ -9,7 +9,7 @@ ghost use Rattle.cqa_model.specs.Query.{rows_of};
 ghost use Rattle.plan_rows.specs.Knowing.{MayFit};
 ghost use Rattle.plan_rows.specs.Over.{look_query, look_tables, look_taken, look_rows};
 ghost use Rattle.plan_rows.specs.Links.{AreLinks, HasReached, atoms_on};
-ghost use Rattle.plan_rows.specs.Places.{AreThere};
+ghost use Rattle.plan_rows.specs.Places.{AreEnoughPlaces};
 
 use crate::fitting::may_fit;
 use crate::links::Link;
@@ -44,7 +44,7 @@ fn add_places(
     places: &Places<'_>,
     found: &mut PlaceSet,
 ) -> Result<(), NoMemory>
-    requires { AreThere (look_query look.now) (look_tables look.now) (option_copied row) (look_taken look.now) [] look.now.atom (look_rows look.now) places.now }
+    requires { AreEnoughPlaces (look_query look.now) (look_tables look.now) (option_copied row) (look_taken look.now) [] look.now.atom (look_rows look.now) places.now }
     ensures kept { OnOk result ((p : ℕ) → Contains found.old p → Contains found.new p) }
     ensures added { OnOk result (HasReached (look_query look.now) (look_tables look.now) (option_copied row.entry) (look_taken look.now) [] look.now.atom found.new) }
 {
@@ -116,7 +116,7 @@ fn add_guesses<'x>(
 ) -> Result<(), NoMemory>
     requires path { IfSome path (λ x. x.now.rows ≡ look_rows look.now) }
     requires atom { atom < length (look_query look.now).atoms }
-    requires places { AreThere (look_query look.now) (look_tables look.now) (option_copied row) (look_taken look.now) [] atom (rows_of (look_query look.now) (look_tables look.now) atom) places.now }
+    requires places { AreEnoughPlaces (look_query look.now) (look_tables look.now) (option_copied row) (look_taken look.now) [] atom (rows_of (look_query look.now) (look_tables look.now) atom) places.now }
     requires later { AreLinks (look_query look.now) look.now.setting.now.bound.now.db.now later.now }
     ensures kept { OnOk result ((p : ℕ) → Contains found.old p → Contains found.new p) }
     ensures added { OnOk result (HasReached (look_query look.now) (look_tables look.now) (option_copied row.entry) (look_taken look.now) (atom ∷ atoms_on later.now) look.now.atom found.new) }

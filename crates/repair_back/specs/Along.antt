@@ -5,7 +5,7 @@ use Rattle.cqa_model.specs.Database.{stored}
 use Rattle.cqa_model.specs.Query.{rows_of}
 use Rattle.cqa_model.specs.Plan.{Placed, PlanHolds}
 use Rattle.plan_rows.specs.Links.{RowHolds}
-use Rattle.plan_rows.specs.Places.{AreThere}
+use Rattle.plan_rows.specs.Places.{AreEnoughPlaces}
 use Rattle.plan_rows.specs.declared.places.Places.{Places}
 use Rattle.repair_back.specs.declared.way.Way.{Way}
 use Rattle.repair_back.specs.Flags.{kept_tables, AreRepairFlags}
@@ -22,7 +22,7 @@ kept_on way flags F = rows_of way.course.now.setting.bound.now.query.now (kept_t
 -- the places have each row of F to which rows of some links among the rest lead
 abbrev pub AreLed : Way → List Placed → ℕ → List ℕ → Places → Type 0
 AreLed way taken F rest s = (links : List ℕ) × ((G : ℕ) → Contains links G → Contains rest G) ×
-    AreThere way.course.now.setting.bound.now.query.now (stored way.course.now.setting.bound.now.db.now) (Some way.row.now) taken links F (rows_on way F) s
+    AreEnoughPlaces way.course.now.setting.bound.now.query.now (stored way.course.now.setting.bound.now.db.now) (Some way.row.now) taken links F (rows_on way F) s
 
 -- one row is kept of each block
 abbrev pub KeepsOne : Way → List (List Bool) → Type 0

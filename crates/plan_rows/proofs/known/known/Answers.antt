@@ -4,7 +4,7 @@ use Rattle.std.specs.Option.{option_copied}
 use Rattle.cqa_value.specs.declared.value.Value.{Value as Cell}
 use Rattle.cqa_value.specs.Values.{nothing}
 use Rattle.cqa_model.specs.Plan.{TestHolds}
-use Rattle.plan_rows.specs.Fitting.{GivesAt}
+use Rattle.plan_rows.specs.Fitting.{GivesCandidate}
 use Rattle.plan_rows.specs.Knowing.{MayFit}
 use Rattle.plan_rows.specs.Over.{look_query, look_taken}
 use Rattle.plan_rows.proofs.Telling.{may-tests, may-agree, may-answer, told-map}
@@ -26,7 +26,7 @@ returns-in-Some-row c =
     let q = look_query look in
     let taken = look_taken look in
     told-map
-    (λ value. (y : List Cell) → GivesAt q look.atom y c.in-Some-row.row.now → get_or y c.args.col nothing ≡ value)
+    (λ value. (y : List Cell) → GivesCandidate q look.atom y c.in-Some-row.row.now → get_or y c.args.col nothing ≡ value)
     (λ value. (y : List Cell) → MayFit q (option_copied c.args.row) taken look.atom y → get_or y c.args.col nothing ≡ value)
     c.told_by_answer.result
     (λ v h y f. h y (may-answer q taken look.atom y c.in-Some-row.row.now (subst (λ r. MayFit q (option_copied r) taken look.atom y) c.in-Some-row.is f))) c.told_by_answer.ensures
