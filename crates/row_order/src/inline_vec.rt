@@ -1,7 +1,6 @@
 //! Lists of a bounded number of values, which lie in the list itself and take no memory.
 
-ghost use Rattle.std.specs.Prelude.{◌≡◌, ◌+◌, ◌-◌, ◌<◌, ◌≤◌, ◌↔◌, length, [], ◌∷◌, ◌++◌, take, slice_get, IsSome};
-ghost use Rattle.std.specs.Option.{option_to_list};
+ghost use Rattle.std.specs.Prelude.{◌≡◌, ◌<◌, ◌≤◌, length, [], ◌∷◌, ◌++◌, take, MatchOption};
 
 use crate::null_allocator::NullAllocator;
 use smallvec::SmallVec;
@@ -43,7 +42,7 @@ impl<T: Default + Drop, const N: usize> InlineVec<T, N> {
 
     /// Takes the last value, if there is one.
     pub fn pop(&mut self) -> Option<T>
-        ensures { self.old ≡ self.new ++ option_to_list result }
+        ensures { MatchOption result ((self.old ≡ []) × (self.new ≡ [])) (λ value. self.old ≡ self.new ++ value ∷ []) }
     {
         self.values.pop()
     }

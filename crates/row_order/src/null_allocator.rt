@@ -16,4 +16,24 @@ unsafe impl Allocator for NullAllocator {
     }
 
     unsafe fn deallocate(&self, _block: *mut u8, _size: usize, _align: usize) {}
+
+    unsafe fn grow<T>(
+        &self,
+        _block: *mut T,
+        _len: usize,
+        _old_cap: usize,
+        _new_cap: usize,
+    ) -> Result<*mut T, AllocError> {
+        Err(AllocError)
+    }
+
+    unsafe fn shrink<T>(
+        &self,
+        _block: *mut T,
+        _len: usize,
+        _old_cap: usize,
+        _new_cap: usize,
+    ) -> Result<*mut T, AllocError> {
+        Err(AllocError)
+    }
 }
