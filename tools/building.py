@@ -164,6 +164,8 @@ def proved(folder, crates, teller, log):
         if process.poll() is None:
             process.kill()  # what it started ends with it
             process.wait()
+    if status < 0:
+        raise NotBuilt("the build was ended by signal %d, most likely for memory; what was proved so far is kept for the next one" % -status)
     if status:
         raise NotBuilt("the build failed%s; %s says why" % (" at " + refused[0] if refused else "", LOG))
     return progress.spent

@@ -228,6 +228,8 @@ def _tell(count: int) -> None:
         return
     print("cqa: unproved: the program is compiled without its proofs, in about %s.\n"
           "cqa: Nothing is proved of its replies, and it is slow; ./cqa build proves and builds it." % compile_time(), file=sys.stderr)
+    if os.access(os.path.join(_top(), "crates", "cqa_cli", "out", "cqa_cli"), os.X_OK):
+        print("cqa: It is built already: without `try` the same words answer at once.", file=sys.stderr)
     sys.stderr.flush()
 
 
