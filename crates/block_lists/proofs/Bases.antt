@@ -1,9 +1,9 @@
 -- Blocks, one after the other: how many rows stand before each, their numbers, and their clauses.
-use Rattle.std.proofs.Common.{◌≡◌, ℕ, zero, suc, ◌<◌, ◌≤◌, ◌+◌, ◌∷◌, ◌++◌, List, [], length, get_or, map, take, drop, Contains, refl, sym, ◌∙◌, ap, subst, arith, Bool, slice_range}
+use Rattle.std.proofs.Common.{◌≡◌, ℕ, zero, suc, ◌<◌, ◌≤◌, ◌+◌, ◌∷◌, ◌++◌, List, [], length, get_or, map, take, Contains, sym, ◌∙◌, ap, subst, arith}
 use Rattle.std.specs.List.{AllZip, range_with_len, sum}
 use Rattle.std.proofs.lemmas.List.{append_assoc, map_push, take_more}
 use Rattle.std.proofs.lemmas.List.Sums.{sum_by-cons, sum_by_more, sum_by_more_le}
-use Rattle.cqa_value.proofs.Words.{Contains-from_map, Contains-map, mem-head, mem-nil, mem-tail}
+use Rattle.cqa_value.proofs.Words.{Contains-from_map, Contains-map, mem-head, mem-tail}
 use Rattle.cnf_form.specs.declared.formula.Lit.{Lit}
 use Rattle.cnf_form.specs.Literals.{positive}
 use Rattle.block_lists.specs.declared.row.BlockRow.{BlockRow}

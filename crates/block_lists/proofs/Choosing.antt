@@ -1,11 +1,11 @@
 -- Choices in order, and what a walk over them keeps.
-use Rattle.std.proofs.Common.{◌≡◌, ℕ, zero, suc, ◌<◌, ◌≤◌, ◌+◌, ◌⊎◌, inl, inr, List, [], ◌∷◌, ◌++◌, length, get_or, take, Some, slice_get, refl, sym, ◌∙◌, ap, subst, arith, Contains}
+use Rattle.std.proofs.Common.{◌≡◌, ℕ, zero, suc, ◌<◌, ◌≤◌, ◌+◌, ◌⊎◌, inl, inr, List, [], ◌∷◌, ◌++◌, length, get_or, take, Some, slice_get, sym, ◌∙◌, ap, subst, arith, Contains}
 use Rattle.std.proofs.lemmas.List.{take_more}
 use Rattle.std.proofs.lemmas.Option.{slice_get_within, get_or_from_slice_get}
 use Rattle.std.proofs.lemmas.List.Elements.{Contains-push_cases}
-use Rattle.cqa_value.proofs.Words.{cases_next, mem-head, mem-tail}
+use Rattle.cqa_value.proofs.Words.{cases_next}
 use Rattle.block_lists.specs.declared.row.BlockRow.{BlockRow}
-use Rattle.block_lists.specs.Choices.{IsBegun, IsChoice, Chooses, HoldsWhole, HoldsSome, IsForcedBy}
+use Rattle.block_lists.specs.Choices.{IsBegun, IsChoice, HoldsWhole, HoldsSome}
 use Rattle.block_lists.specs.Walks.{IsBefore, Begins}
 
 -- ---- choices in order

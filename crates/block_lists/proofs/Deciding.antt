@@ -1,19 +1,18 @@
 -- The formula of lists of rows of blocks decides as choices do.
-use Rattle.std.proofs.Common.{◌≡◌, ℕ, zero, suc, ◌<◌, ◌≤◌, ◌+◌, ◌-◌, ◌⊎◌, inl, inr, List, [], ◌∷◌, ◌++◌, length, get_or, map, take, drop, suc-le-suc, Option, Some, None, slice_get, refl, sym, ◌∙◌, ap, subst, arith, Contains, Bool, true, false}
+use Rattle.std.proofs.Common.{◌≡◌, ℕ, zero, suc, ◌<◌, ◌+◌, ◌-◌, ◌⊎◌, inl, inr, List, [], ◌∷◌, get_or, map, take, drop, suc-le-suc, Some, slice_get, refl, sym, ◌∙◌, ap, subst, arith, Contains, Bool, true, false}
 use native.Mathlib.Decide.{ℕ_discrete}
 use Rattle.std.specs.List.{AllZip, range_with_len}
 use Rattle.std.proofs.lemmas.List.{get_or-drop}
 use Rattle.std.proofs.lemmas.List.Elements.{Contains-append_left, Contains-append_right, Contains-append_cases}
 use Rattle.cqa_value.proofs.Words.{clash, is_yes, yes_of, no_of, mem-head, mem-tail, mem-nil, mem-cases, Contains-map, Contains-from_map, Contains-range, in_range}
 use Rattle.cnf_form.specs.declared.formula.Lit.{Lit}
-use Rattle.cnf_form.specs.Literals.{literals, positive, negative, MakesTrue, Satisfies, SatisfiesAll}
+use Rattle.cnf_form.specs.Literals.{positive, negative, MakesTrue, Satisfies, SatisfiesAll}
 use Rattle.block_lists.specs.declared.row.BlockRow.{BlockRow}
 use Rattle.block_lists.specs.Choices.{IsChoice, Chooses, HoldsWhole, HoldsSome, IsForcedBy, AreThere}
-use Rattle.block_lists.specs.Formulas.{number, blocks_from, AreNumbersIn, group_clauses, IsGroupFormula}
+use Rattle.block_lists.specs.Formulas.{number, blocks_from, AreNumbersIn, group_clauses}
 use Rattle.block_lists.specs.Picks.{first_true, first_trues}
 use Rattle.block_lists.specs.Laws.{GroupDecides, PicksAvoid}
-use Rattle.cnf_form.specs.declared.formula.Cnf.{Cnf}
-use Rattle.cdcl.specs.Outcomes.{IsModel, assignment}
+use Rattle.cdcl.specs.Outcomes.{assignment}
 use Rattle.block_lists.proofs.Decisions.{Option-dec, stable, dec_each, dec_some, find_in}
 
 -- ---- numbers

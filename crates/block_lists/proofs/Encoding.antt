@@ -3,7 +3,6 @@ use Rattle.std.proofs.Common.{◌≡◌, ℕ, zero, suc, ◌<◌, ◌≤◌, ◌
 use Rattle.std.specs.List.{AllZip, range_with_len, sum}
 use Rattle.std.specs.List.Sorted.{IsStrictlySortedBy}
 use Rattle.std.proofs.lemmas.List.{append_assoc, length-map, map_push, take_more}
-use Rattle.std.proofs.lemmas.List.FromFn.{get_or-range_with_len, length-range_with_len}
 use Rattle.std.proofs.lemmas.List.Elements.{Contains-append_cases}
 use Rattle.std.proofs.lemmas.Option.{get_or_from_slice_get, slice_get_within}
 use Rattle.cqa_value.specs.declared.memory.NoMemory.{NoMemory}
@@ -11,11 +10,9 @@ use Rattle.cqa_value.proofs.Words.{Contains-from_map, in_range, mem-cases, mem-n
 use Rattle.cnf_form.specs.declared.formula.Lit.{Lit}
 use Rattle.cnf_form.specs.declared.formula.Cnf.{Cnf}
 use Rattle.cnf_form.specs.declared.log.Log.{Log}
-use Rattle.cnf_form.specs.declared.header.TheConstants.{MOST_CLAUSES, MOST_VARIABLES}
-use Rattle.cnf_form.specs.Literals.{AreVarsInRange, SatisfiesAll, literals, negative, positive}
+use Rattle.cnf_form.specs.Literals.{AreVarsInRange, literals, negative, positive}
 use Rattle.cnf_form.specs.Logs.{Refutes, AreConsecutive}
 use Rattle.cnf_form.specs.Spent.{IsSpentLog, NoVarTwice}
-use Rattle.cnf_form.specs.Writing.{IsWritable}
 use Rattle.cnf_form.proofs.Sound.{refutation_sound}
 use Rattle.cdcl.specs.declared.outcome.Outcome.{Outcome}
 use Rattle.cdcl.specs.declared.outcome.Outcome.TheVariants.{Sat, Unsat, Spent}
@@ -23,14 +20,12 @@ use Rattle.cdcl.specs.Outcomes.{IsModel, IsOnce, OutcomeIs}
 use Rattle.block_lists.specs.declared.row.BlockRow.{BlockRow}
 use Rattle.block_lists.specs.declared.proving.Proved.{Proved}
 use Rattle.block_lists.specs.declared.judging.Judged.{Judged}
-use Rattle.block_lists.specs.declared.judging.Judged.TheVariants as judged
 use Rattle.block_lists.specs.declared.proving.Proved.TheVariants as proved
-use Rattle.block_lists.specs.Choices.{AreThere, IsAvoidedBy, IsForcedBy, IsGroup}
-use Rattle.block_lists.specs.Formulas.{AreNumbersIn, IsGroupFormula, blocks_from, group_clauses, number}
+use Rattle.block_lists.specs.Choices.{AreThere, IsAvoidedBy, IsGroup}
+use Rattle.block_lists.specs.Formulas.{AreNumbersIn, IsGroupFormula, blocks_from, number}
 use Rattle.block_lists.specs.Numbers.{AddsLists, AreNumbersOver, IsListClause}
 use Rattle.block_lists.specs.Judging.{HasEachValue, IsJudged, IsProved, Shows, Tells}
 use Rattle.block_lists.specs.Laws.{GroupFormulaIsWritable}
-use Rattle.block_lists.specs.Picks.{first_trues}
 use Rattle.block_lists.proofs.Bases.{no-more-blocks, sum-cons}
 use Rattle.block_lists.proofs.Deciding.{group_decides, picks_avoid, zip-left}
 

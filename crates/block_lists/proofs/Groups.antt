@@ -1,5 +1,5 @@
 -- How a group comes to be: blocks first, and then one list after the other.
-use Rattle.std.proofs.Common.{◌≡◌, ℕ, ◌<◌, ◌≤◌, ◌+◌, inl, inr, List, [], ◌∷◌, ◌++◌, length, length-append, sym, subst, arith, Contains}
+use Rattle.std.proofs.Common.{ℕ, ◌<◌, ◌≤◌, inl, inr, List, [], ◌∷◌, ◌++◌, length, length-append, sym, subst, arith, Contains}
 use Rattle.std.specs.List.{sum}
 use Rattle.std.proofs.lemmas.List.Elements.{Contains-push_cases}
 use Rattle.cqa_value.proofs.Words.{mem-nil}

@@ -1,8 +1,7 @@
 -- The choice of a model: the first true row of each block.
-use Rattle.std.proofs.Common.{◌≡◌, ℕ, zero, suc, ◌<◌, ◌≤◌, ◌+◌, ◌-◌, ◌∷◌, ◌++◌, List, [], length, get_or, map, take, drop, Contains, Some, slice_get, refl, sym, ◌∙◌, ap, subst, arith, Bool, true, false, slice_range, cond}
-use Rattle.std.specs.List.{AllZip, range_with_len, sum}
+use Rattle.std.proofs.Common.{◌≡◌, ℕ, zero, suc, ◌<◌, ◌≤◌, ◌+◌, ◌-◌, ◌∷◌, ◌++◌, List, [], length, get_or, take, drop, refl, ◌∙◌, ap, arith, Bool, true, false, slice_range, cond}
+use Rattle.std.specs.List.{sum}
 use Rattle.std.proofs.lemmas.List.{length-drop, length-take-le, take_more}
-use Rattle.std.proofs.lemmas.List.Sums.{sum_by_more}
 use Rattle.block_lists.proofs.Bases.{sum-cons, sum-within}
 use Rattle.block_lists.specs.Picks.{first_true, first_trues}
 

@@ -1,5 +1,5 @@
 -- A list that has all rows of another may be left out.
-use Rattle.std.proofs.Common.{◌≡◌, ℕ, inl, inr, List, [], ◌∷◌, ◌++◌, subst, Contains}
+use Rattle.std.proofs.Common.{◌≡◌, inl, inr, List, ◌∷◌, ◌++◌, subst}
 use Rattle.std.proofs.lemmas.List.Elements.{Contains-append_left, Contains-append_right, Contains-append_cases}
 use Rattle.cqa_value.proofs.Words.{mem-cases, mem-tail}
 use Rattle.block_lists.specs.declared.row.BlockRow.{BlockRow}

@@ -1,5 +1,5 @@
 -- The formula of a group: each row of each block is a variable, numbered from 1, block after block (Dixit and Kolaitis, SAT 2019).
-use Rattle.std.specs.Prelude.{◌≡◌, ℕ, zero, suc, ◌+◌, ◌≤◌, ◌⊎◌, ◌↔◌, ◌++◌, Bool, List, [], ◌∷◌, map, length, Contains}
+use Rattle.std.specs.Prelude.{◌≡◌, ℕ, zero, suc, ◌+◌, ◌↔◌, ◌++◌, List, [], ◌∷◌, map, Contains}
 use Rattle.std.specs.Ordering.{nat_cmp}
 use Rattle.std.specs.List.{AllZip, range_with_len, sum}
 use Rattle.std.specs.List.Sorted.{IsStrictlySortedBy}

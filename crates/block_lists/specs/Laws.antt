@@ -1,6 +1,5 @@
 -- The laws of lists of rows of blocks, over the definitions alone.
-use Rattle.std.specs.Prelude.{◌≡◌, ℕ, ◌⊎◌, ◌↔◌, ◌++◌, ◌∷◌, Bool, List, Contains}
-use Rattle.std.specs.List.{AllZip}
+use Rattle.std.specs.Prelude.{ℕ, ◌⊎◌, ◌↔◌, ◌++◌, ◌∷◌, Bool, List, Contains}
 use Rattle.cnf_form.specs.declared.formula.Cnf.{Cnf}
 use Rattle.cnf_form.specs.Literals.{literals, SatisfiesAll}
 use Rattle.cnf_form.specs.Writing.{IsWritable}

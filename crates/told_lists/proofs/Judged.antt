@@ -1,23 +1,21 @@
 -- A row is certain exactly where the group of its witnesses is, as told.
-use Rattle.std.proofs.Common.{◌≡◌, ◌↔◌, ℕ, ◌<◌, inl, inr, List, [], ◌∷◌, ◌++◌, length, Option, None, refl, sym, subst, Contains}
+use Rattle.std.proofs.Common.{◌↔◌, ◌<◌, inl, inr, List, [], ◌∷◌, ◌++◌, length, Option, refl, sym, subst}
 use Rattle.cqa_value.specs.declared.value.Value.{Value}
 use Rattle.cqa_value.proofs.Words.{mem-cases, mem-head, mem-nil}
 use Rattle.cqa_model.specs.declared.query.Query.{Query}
 use Rattle.cqa_model.specs.declared.query.RowId.{RowId}
-use Rattle.cqa_model.specs.Database.{Table, IsDatabase}
-use Rattle.cqa_model.specs.Repairs.{IsRepair}
+use Rattle.cqa_model.specs.Database.{Table}
 use Rattle.cqa_model.specs.Query.{FitsDatabase, IsWitness}
 use Rattle.cqa_model.specs.Certain.{IsCertain}
 use Rattle.cqa_model.specs.Unions.{HoldsSome, IsCertainIn}
-use Rattle.row_lists.specs.Lists.{AreStoredLists, IsIn, IsStored}
+use Rattle.row_lists.specs.Lists.{AreStoredLists}
 use Rattle.row_lists.proofs.Naming.{named-place}
 use Rattle.join_witness.proofs.Listing.{all_names}
-use Rattle.part_search.specs.Parts.{AllFit, AreNamesIn, IsOfSome}
+use Rattle.part_search.specs.Parts.{AllFit, AreNamesIn}
 use Rattle.part_search.proofs.Forced.{certain_is_forced, names_of_parts}
 use Rattle.block_lists.specs.declared.row.BlockRow.{BlockRow}
 use Rattle.block_lists.specs.declared.judging.Judged.TheVariants.{Certain, Open, Spent}
-use Rattle.block_lists.specs.Choices.{IsForcedBy}
-use Rattle.told_lists.specs.Telling.{AreListsTold, AreWitnessesTold, IsTelling}
+use Rattle.told_lists.specs.Telling.{AreListsTold, AreWitnessesTold}
 use Rattle.told_lists.specs.Laws.{JudgedIsCertain, JudgedIsCertainIn, VerdictsHold}
 use Rattle.told_lists.proofs.Told.{told_decide}
 

@@ -1,5 +1,5 @@
 -- Lists told by numbers decide as the lists do.
-use Rattle.std.proofs.Common.{◌≡◌, ℕ, zero, suc, ◌<◌, ◌≤◌, ◌+◌, ◌⊎◌, inl, inr, List, [], ◌∷◌, length, get_or, Some, None, Option, slice_get, refl, sym, ◌∙◌, ap, subst, arith, Contains, Bool, true, false}
+use Rattle.std.proofs.Common.{◌≡◌, ℕ, zero, suc, ◌<◌, ◌≤◌, ◌+◌, ◌⊎◌, inl, inr, List, [], ◌∷◌, get_or, Some, None, Option, slice_get, refl, sym, ◌∙◌, ap, subst, arith, Contains, Bool, true, false}
 use Rattle.std.proofs.Math.Bool.{Bool-discrete}
 use Rattle.cqa_value.proofs.Words.{clash, yes_of, no_of, is_yes, mem-head, mem-tail}
 use Rattle.cqa_model.specs.declared.query.RowId.{RowId}

@@ -1,5 +1,5 @@
 -- The laws of lists told by numbers: they decide as the lists do, and as the row whose witnesses they are.
-use Rattle.std.specs.Prelude.{◌≡◌, ◌↔◌, ℕ, List, [], ◌∷◌, Option}
+use Rattle.std.specs.Prelude.{◌↔◌, ℕ, List, [], ◌∷◌, Option}
 use Rattle.cqa_value.specs.declared.value.Value.{Value}
 use Rattle.cqa_model.specs.declared.query.Query.{Query}
 use Rattle.cqa_model.specs.declared.query.RowId.{RowId}

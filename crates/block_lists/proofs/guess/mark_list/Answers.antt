@@ -1,4 +1,4 @@
-use Rattle.std.proofs.Common.{◌<◌, get_or, arith}
+use Rattle.std.proofs.Common.{get_or, arith}
 use Rattle.std.proofs.lemmas.List.Elements.{Contains-get_or}
 use Rattle.block_lists.proofs.Bases.{no_row}
 use Rattle.block_lists.proofs.guess.mark_list.Goals as goal
