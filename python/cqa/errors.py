@@ -25,14 +25,15 @@ class CqaError(Exception):
 class Refused(CqaError):
     """A statement was refused; it changed nothing.
 
-    number: the number of the refusal, 1 to 21 of today's program.
+    number: the number of the refusal, 1 to 23 of today's program.
     name: its name, as "UnknownTable".
     fields: what stands behind the name, as "customer" or "at 12"; may be empty.
     statement: the statement's text.
     offset: the offset in bytes of the place in the statement, where the refusal names one.
+    hint: what to write in its place, or what is wrong, where that can be told; else nothing.
     """
 
-    def __init__(self, line: str, statement: str, note: str = "") -> None:
+    def __init__(self, line: str, statement: str, note: str = "", hint: str = "") -> None:
         found = re.match(r"error (\d+) (\w+) ?(.*)", line, flags=re.S)
         if found is None:
             raise ValueError("no refusal: %r" % line)
@@ -42,7 +43,8 @@ class Refused(CqaError):
         self.fields = found[3]
         self.statement = statement
         self.note = note
-        super().__init__("%s%s, in: %s" % (line, ": " + note if note else "", _shortened(statement)))
+        self.hint = hint
+        super().__init__("%s%s, in: %s%s" % (line, ": " + note if note else "", _shortened(statement), "; " + hint if hint else ""))
 
     @property
     def offset(self) -> Optional[int]:

@@ -9,7 +9,7 @@ import re
 from typing import Dict, List, NamedTuple, Optional, Tuple
 
 from .columns import csv_fault
-from .habits import advice_for
+from .habits import Takes, advice_for
 from .scripts import Schema, Statement, list_line, open_part
 
 _COMMENT_OR_TEXT = re.compile(rb"--[^\n]*|'[^']*(?:'|\Z)")
@@ -48,8 +48,9 @@ class Place(NamedTuple):
         return len(self.shown.encode()[:self.column - 1].decode(errors="replace"))
 
 
-def place_of(script: bytes, statement: Statement, refusal: str, schemas: Dict[str, Schema]) -> Place:
-    """The place of a refusal: the line "error 6 UnknownColumn nmae" to a statement of a script, over the tables that are there."""
+def place_of(script: bytes, statement: Statement, refusal: str, schemas: Dict[str, Schema], takes: Optional[Takes] = None) -> Place:
+    """The place of a refusal: the line "error 6 UnknownColumn nmae" to a statement of a script, over the tables that are there. takes:
+    whether the program takes a statement over them, which is asked before a hint shows one."""
     text = statement.text(script)
     name = refusal.split(" ")[2] if refusal.count(" ") > 1 else ""
     note, of_list = "", ""
@@ -61,7 +62,7 @@ def place_of(script: bytes, statement: Statement, refusal: str, schemas: Dict[st
         masked = _COMMENT_OR_TEXT.sub(lambda found: found[0] if found[0][:1] == b"'" else b" " * len(found[0]), text)
         tokens = [(found[0], found.start()) for found in _TOKEN.finditer(masked)]
         inner = _offset(tokens, refusal, name, len(text))
-        note = (advice_for(masked.decode("utf-8", "replace"), _letters(masked, inner), refusal) or _meant(refusal, schemas)
+        note = (advice_for(masked.decode("utf-8", "replace"), _letters(masked, inner), refusal, schemas, takes) or _meant(refusal, schemas)
                 or _of_row(tokens, refusal, schemas, inner))
         at = statement.start + inner
         if name == "BadByte":

@@ -20,6 +20,7 @@ from .program import Child
 from .replies import END_STATEMENT, IS_REFUSAL
 from .scripts import Schema, Statement, fault_of, schema_of, statements, verb_of
 from .session import Session
+from .trial import Trial
 from .words import told as words_told
 
 _PIECE = 1 << 20
@@ -78,6 +79,7 @@ class Runner:
         self.child = child
         self.schemas: Dict[str, Schema] = {}
         self._is_strict = is_strict
+        self._trial = Trial(child.program)
         self._marks = Marks()
         self._own: Dict[str, Marks] = {}  # what the comments of each file say
         for file in files:
@@ -226,7 +228,7 @@ class Runner:
         return Answer(sent.file.path, text, verb, [line[:-1] for line in lines], "", None)
 
     def _refused(self, sent: _Sent, text: str, verb: str, refusal: str) -> Answer:
-        place = place_of(sent.file.script, sent.statement, refusal, self.schemas)
+        place = place_of(sent.file.script, sent.statement, refusal, self.schemas, lambda whole: self._trial.takes(whole, self.schemas, self._marks))
         return Answer(sent.file.path, text, verb, [], refusal, place)
 
 

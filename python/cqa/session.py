@@ -25,11 +25,13 @@ from .marks import Marks, is_state, marks_of, state_fault, state_text
 from .meaning import Meaning, copy_notes, is_of_form, meaning_of
 from .options import ByList, ListOptions, forms_by_list, word_of
 from .origins import Origin, origin_text, origins_of
+from .places import place_of
 from .program import Child
 from .replies import IS_REFUSAL, row_of
 from .rows import Cell, Rows
 from .scaling import places_of, shown_number, stored
 from .scripts import Schema, Statement, aggregate_of, fault_of, quoted, selected, shown_schema, statements, tokens, verb_of
+from .trial import Trial
 
 #: Statements that not every program knows: how each begins, and the reply of a program that doesn't know it.
 NEWER = (("disputed", "error 2 Syntax at 0"), ("against", "error 2 Syntax at 0"), ("prove", "error 2 Syntax at 0"),
@@ -51,6 +53,7 @@ class Session:
         self._child = child or Child(program)
         self._settings = b""
         self._marks = Marks()
+        self._trial = Trial(self._child.program)
         self._origins: Dict[str, List[Origin]] = {}
 
     def __enter__(self) -> "Session":
@@ -117,6 +120,10 @@ class Session:
         """What a statement means over the columns of which the comments of scripts and the options of `load` say something."""
         return meaning_of(text, self._marks, lambda: {schema.table: schema for schema in self.tables()})
 
+    def takes(self, statement: str, schemas: Mapping[str, Schema]) -> bool:
+        """Whether the program answers a statement over tables of such schemas; the session's own aren't touched."""
+        return self._trial.takes(statement, schemas, self._marks)
+
     def heed(self, script: bytes) -> None:
         """Heeds what the comments between the statements of a script say of columns, numbers with places, times, and columns of sources,
         and from which lists rows come. Raises ScaleFault where they say something else of a column than is known."""
@@ -147,7 +154,7 @@ class Session:
         sent = meaning.sent().encode("utf-8", "surrogateescape") + b";" if meaning.edits else script[part.start:part.end]
         lines = self._child.tell(sent, verb)
         if lines and IS_REFUSAL.match(lines[0]):
-            self._refuse(meaning.refusal(lines[0][:-1].decode("utf-8")), text)
+            self._refuse(script, part, meaning.refusal(lines[0][:-1].decode("utf-8")))
         if verb == "set":
             self._settings = script[part.start:part.end] + b"\n"
         return [line[:-1] for line in lines]
@@ -161,13 +168,15 @@ class Session:
         for note in (*meaning.notes, *(fault.text for fault in meaning.faults)):
             _warn(note, ScaleWarning)
 
-    def _refuse(self, line: str, text: str) -> None:
-        """Raises what a refusal is."""
+    def _refuse(self, script: bytes, part: Statement, line: str) -> None:
+        """Raises what the refusal of a statement is."""
+        text = part.text(script).decode("utf-8", "replace")
         plain = " ".join(text.split())
         for word, reply in NEWER:
             if re.match(word + r"\b", plain) and line == reply:
                 raise UnknownStatement(line, text, self.program, word)
-        raise Refused(line, text)
+        schemas = {schema.table: schema for schema in self.tables()}
+        raise Refused(line, text, hint=place_of(script, part, line, schemas, lambda whole: self.takes(whole, schemas)).note)
 
     # -- load and look ------------------------------------------------------------------------------------------------------
 

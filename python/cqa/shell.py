@@ -164,7 +164,8 @@ class Shell:
                 print("note: " + note, file=sys.stderr)
 
     def _refused(self, statement: Statement, line: str) -> None:
-        place = place_of(self._buffer, statement, line, {schema.table: schema for schema in self._schemas})
+        schemas = {schema.table: schema for schema in self._schemas}
+        place = place_of(self._buffer, statement, line, schemas, lambda whole: self.session.takes(whole, schemas))
         self._fault(place.caret() + "\n" + line.replace("\n", "\\n") + (": " + place.note if place.note else ""))
 
     def _fault(self, text: str) -> None:

@@ -3,6 +3,7 @@
 from __future__ import annotations
 
 import os
+import re
 import stat
 import subprocess
 import sys
@@ -13,13 +14,14 @@ from unittest import mock
 from support import PROGRAM, TOP, Case, ProgramCase, lines
 
 from cqa.habits import HABITS, advice_for
+from cqa.marks import Marks, marks_of
 from cqa.places import place_of
 from cqa.program import Child
 from cqa.running import ScriptFile, run_files
-from cqa.marks import Marks, marks_of
-from cqa.scripts import aggregate_of, parts_of, schema_of, selected, statements
+from cqa.scripts import Schema, aggregate_of, parts_of, schema_of, selected, statements
 
 STAFF = "create table staff (id int, name text, room int, primary key (id));\n"
+STAFF_SCHEMA = Schema("staff", {"id": "int", "name": "text", "room": "int"}, ["id"])
 
 
 class Scripts(unittest.TestCase):
@@ -75,8 +77,9 @@ class Places(ProgramCase):
             "delete from staff where id = 1\n and name = 2;\ninsert into staff values\n (1, 'a');\ncreate table t (a int,\n a text, primary key (a));\n"
             "create table t (a int,\n primary key (b));\nask exists from staf;\nask select id from staff\n union select id, name\n from staff;\n"
             "possible select id, room from staff union select id,\n name from staff;\n"),
-            ["s.cqa:3: error 6 UnknownColumn nmae: is it `name`?", "s.cqa:5: error 8 SelfJoin staff", "s.cqa:7: error 9 TypeMismatch row 2 column 2: name is text: write '3'",
-             "s.cqa:9: error 9 TypeMismatch condition 2", "s.cqa:11: error 10 WrongArity row 1: 3 columns: id, name, room", "s.cqa:13: error 11 DuplicateColumn a",
+            ["s.cqa:3: error 6 UnknownColumn nmae: is it `name`?", "s.cqa:5: error 8 SelfJoin staff: a query names each table once: a copy of staff under another name would be another question, since it is repaired by itself",
+             "s.cqa:7: error 9 TypeMismatch row 2 column 2: name is text: write '3'",
+             "s.cqa:9: error 9 TypeMismatch condition 2: name is text: write '2'", "s.cqa:11: error 10 WrongArity row 1: 3 columns: id, name, room", "s.cqa:13: error 11 DuplicateColumn a",
              "s.cqa:15: error 12 BadKey b", "s.cqa:16: error 4 UnknownTable staf: is it `staff`?", "s.cqa:18: error 10 WrongArity row 2",
              "s.cqa:21: error 9 TypeMismatch row 2 column 2"])
 
@@ -96,7 +99,41 @@ class Places(ProgramCase):
         for habit in HABITS:
             with self.subTest(habit.written):
                 script = habit.written.encode()
-                self.assertTrue(place_of(script, next(statements(script)), habit.reply, {}).note.endswith(habit.write))
+                note = place_of(script, next(statements(script)), habit.reply, {"staff": STAFF_SCHEMA}, lambda whole: True).note
+                whole = re.match(r"write `(ask |range )[^`]*;`: (.*)", note) if habit.is_whole else None
+                self.assertEqual(whole is not None, habit.is_whole, note)
+                if habit.at:
+                    self.assertTrue(note.endswith(whole[2] if whole else habit.write), note)
+
+    def test_whole_statements_in_the_readers_words(self) -> None:
+        tables = ("create table customer (id int, name text, city text, zip text, since text, credit int, phone text, primary key (id));\n"
+                  "create table door (room int, code int, primary key (room));\ncreate table person (pid int, name text, room int, primary key (pid));\n")
+        wholes = (
+            ("ask select id from customer where city = 'K\u00f6ln' or city = 'Berlin';", "ask select id from customer where city = 'K\u00f6ln' union select id from customer where city = 'Berlin';"),
+            ("ask select id from customer where city in ('K\u00f6ln', 'Berlin') and credit > 5;",
+             "ask select id from customer where city = 'K\u00f6ln' and credit > 5 union select id from customer where city = 'Berlin' and credit > 5;"),
+            ("ask select id from customer where city not in ('a', 'b');", "ask select id from customer where city <> 'a' and city <> 'b';"),
+            ("ask select id from customer where not (city = 'a' or credit >= 5);", "ask select id from customer where city <> 'a' and credit < 5;"),
+            ("ask select id from customer where since between '2020-01-01' and '2020-12-31';", "ask select id from customer where since >= '2020-01-01' and since <= '2020-12-31';"),
+            ("ask select id from customer where name like 'Anna%';", "ask select id from customer where name >= 'Anna' and name < 'Annb';"),
+            ("ask select id from customer where zip = 1034;", "ask select id from customer where zip = '1034';"),
+            ("ask select p.pid from person p join door d on p.room = d.room where d.code = 5;", "ask select pid from person, door where person.room = door.room and code = 5;"),
+            ("ask select credit, id from customer order by credit desc limit 7;", "ask select credit, id from customer;"),
+            ("SELECT * FROM Door WHERE Code <> 7", "ask select room, code from door where code <> 7;"),
+            ("select city, max(credit) from customer group by city;", "range max credit from customer group by city;"),
+            ("ask select id from customer except select pid from person;", "ask select id from customer;"),
+            ("ask select a.id from customer a, customer b where a.phone = b.phone;", "range count from customer group by phone;"))
+        for written, whole in wholes:
+            with self.subTest(written):
+                self.file("s.cqa", tables + written.rstrip(";") + ";\n")
+                self.assertIn("write `%s`" % whole, self.command("run", "s.cqa")[2])
+                self.file("s.cqa", tables + whole + "\n")
+                self.assertEqual(self.command("run", "s.cqa")[0::2], (0, ""))
+
+    def test_no_hint_shows_what_is_refused(self) -> None:
+        for written in ("select id from nothing;", "ask select id from staff where name > id or id = 1;", "ask select nope from staff where id in (1, 2);"):
+            self.assertNotIn("write `ask select id", "".join(self.refusals(written + "\n")).replace("write `ask select id from nothing", ""))
+            self.assertNotIn("nope from", "".join(self.refusals(written + "\n")).partition("write")[2])
 
     def test_marks_of_other_files(self) -> None:
         self.file("s.cqa", b"\xef\xbb\xbf" + STAFF.encode())
@@ -111,11 +148,11 @@ class Places(ProgramCase):
         self.assertEqual(advice_for("truncate customer", 0, "error 2 Syntax at 0"), "write `delete from customer;`")
         self.assertEqual(advice_for("copy c from 'x.csv'", 7, "error 15 Unfinished"),
                          "write `copy c;`, the records, and a line `\\.`; or `./cqa load --table c --key id x.csv`")
-        self.assertEqual(advice_for("ask exists from c where age between 1 and 2", 28, "error 2 Syntax at 28"), "write `age >= 1 and age <= 2`")
+        self.assertEqual(advice_for("ask exists from c where age between 1 and 2", 28, "error 2 Syntax at 28"), "there is no `between`")
         self.assertEqual(advice_for("SELECT id FROM c", 0, "error 2 Syntax at 0"),
-                         "words in lower case, and `ask select` for what is certain, `possible select` for what is possible")
+                         "words stand in lower case; `ask` gives what is certain, `possible` what is possible")
         self.assertEqual(advice_for("frobnicate", 0, "error 2 Syntax at 0"), "")
-        self.assertEqual(advice_for("ask select sum( pay ), id from c", 14, "error 2 Syntax at 14"), "write `range sum pay from c;`: between which values it lies")
+        self.assertEqual(advice_for("ask select sum( pay ), id from c", 14, "error 2 Syntax at 14"), "between which values it lies")
         self.assertEqual(advice_for("range sum pay from c group by town, year", 34, "error 2 Syntax at 34"),
                          "write `range count from c group by town;`: one column makes the groups")
         self.assertEqual(advice_for("range count from c group by town", 28, "error 6 UnknownColumn town"), "")

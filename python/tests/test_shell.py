@@ -34,8 +34,8 @@ class ByLines(ProgramCase):
     def test_errors_have_a_caret_and_what_to_write(self) -> None:
         status, _, told = self.shell(STAFF + "ask select id from staff\n where 7 = id;\nSELECT id FROM staff;\n")
         self.assertEqual((status, lines(told)), (1, [
-            " where 7 = id;", "       ^", "error 2 Syntax at 32: `id = 7`: the column stands left".replace("`id", "write `id"),
-            "SELECT id FROM staff;", "^^^^^^", "error 2 Syntax at 0: words in lower case, and `ask select` for what is certain, `possible select` for what is possible"]))
+            " where 7 = id;", "       ^", "error 2 Syntax at 32: write `ask select id from staff where id = 7;`: the column stands left",
+            "SELECT id FROM staff;", "^^^^^^", "error 2 Syntax at 0: write `ask select id from staff;`: words stand in lower case; `ask` gives what is certain, `possible` what is possible"]))
 
     def test_commands_that_say_too_little(self) -> None:
         status, out, told = self.shell("\\d nope\n\\save\n\\save /nodir/x\nhelp foo\n\\load --table 'x\nask select id\n\\q\nshow tables;\n")
