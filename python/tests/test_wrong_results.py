@@ -226,6 +226,165 @@ class ColumnsWithPlaces(ProgramCase):
         self.assertEqual(lines(told), [test.replace("q.cqa:1: ", ""), shown.replace("q.cqa:1: ", "")])
 
 
+class ListsOfOnesOwn(ProgramCase):
+    """What lists of a user's own, in forms that no page names, once made of answers, with status 0."""
+
+    def setUp(self) -> None:
+        super().setUp()
+        for name, options, text in (("t", ("--decimal", "a:2"), "id,a\n1,9.00\n2,5.50\n"), ("u", (), "id,b\n1,900\n2,5\n"),
+                                    ("v", ("--decimal", "c:3"), "id,c\n1,9.000\n2,5.500\n"), ("w", ("--decimal", "d:2"), "id,d\n1,9\n3,7.25\n"),
+                                    ("day", ("--time", "since"), "id,since\n1,2018-09-28\n2,2021-01-01\n")):
+            self.file(name + ".csv", text)
+            status, _, told = self.command("load", "--table", name, "--key", "id", *options, name + ".csv", "-o", name + ".cqa")
+            self.assertEqual(status, 0, told)
+
+    def asked(self, command: str, question: str, *scripts: str) -> "tuple[int, str, str]":
+        """What a command says of a question over scripts."""
+        self.file("q.cqa", question + "\n")
+        return self.command(command, *scripts, "q.cqa")
+
+    def refused_by_all(self, query: str, cause: str, *scripts: str) -> None:
+        """A query is refused by csv, report and the package, with nothing written, and noted by run and the shell."""
+        for command in ("csv", "report"):
+            status, out, told = self.asked(command, "ask %s;" % query, *scripts)
+            self.assertEqual((status, out), (1, ""), told)
+            self.assertIn("q.cqa:1: " + cause, told)
+        self.assertIn("q.cqa:1: note: " + cause, self.asked("run", "ask %s;" % query, *scripts)[2])
+        self.assertIn("note: " + cause, self.command("shell", *scripts, stdin=("ask %s;\n" % query).encode())[2])
+        with cqa.Session() as db:
+            for script in scripts:
+                db.run(self.read(script))
+            for ask in (db.certain, db.possible, lambda query: db.explain((1,), query)):
+                with self.assertRaisesRegex(cqa.ScaleFault, re.escape(cause)):
+                    ask(query)
+
+    def test_a_union_of_columns_with_different_places(self) -> None:
+        cause = "%s, and they are one column of the answer: load "
+        self.refused_by_all("select a from t union select b from u", cause % "t.a has 2 places and u.b has none" + "u by --decimal b:2; where it is stored so already, "
+                            "the line `-- cqa: column u.b has 2 places` says it", "t.cqa", "u.cqa")
+        self.refused_by_all("select b from u union select a from t", cause % "u.b has none and t.a has 2 places" + "u by --decimal b:2", "t.cqa", "u.cqa")
+        self.refused_by_all("select a from t union select c from v", cause % "t.a has 2 places and v.c has 3 places" + "t by --decimal a:3", "t.cqa", "v.cqa")
+        self.assertEqual(self.asked("csv", "ask select a from t union select d from w;", "t.cqa", "w.cqa"), (0, "a\n5.50\n7.25\n9.00\n", ""))
+
+    def test_a_join_of_columns_with_different_places(self) -> None:
+        self.refused_by_all("select t.id from t, u where a = b", "t.a has 2 places and u.b has none, and they are compared: load u by --decimal b:2", "t.cqa", "u.cqa")
+        status, out, told = self.asked("csv", "range count from t, u where a = b;", "t.cqa", "u.cqa")
+        self.assertEqual((status, out), (1, ""))
+        self.assertIn("t.a has 2 places and u.b has none", told)
+        self.assertEqual(self.asked("csv", "ask select t.id from t, w where a = d;", "t.cqa", "w.cqa"), (0, "id\n1\n", ""))
+
+    def test_scripts_that_say_different_things_of_a_column(self) -> None:
+        self.file("other.cqa", "-- cqa: column t.a has 3 places\n")
+        for command in ("run", "csv", "conflicts", "report", "shell"):
+            status, out, told = self.command(command, "t.cqa", "other.cqa")
+            self.assertEqual((status, out), (1, ""))
+            self.assertIn("other.cqa: t.a has 2 places by one comment and 3 by another", told)
+
+    def test_a_lists_own_column_called_source(self) -> None:
+        self.file("src.csv", "id,name,source\n1,Ada,web\n1,Ada,phone\n2,Bo,web\n")
+        self.command("load", "--table", "lead", "--key", "id", "src.csv", "-o", "src.cqa")
+        status, out, told = self.command("conflicts", "src.cqa")
+        self.assertEqual((status, out), (0, "lead: 2 keys, 1 in conflict: source 1\n1  source: phone | web\n"))
+        self.assertIn("lead.source counts as the other columns do; --source source says that it tells where a row is from", told)
+        self.assertEqual(self.command("conflicts", "--source", "source", "src.cqa"), (0, "lead: 2 keys, 0 in conflict\n", ""))
+        self.assertNotIn("No key of this table is in conflict", self.command("report", "src.cqa")[1])
+        with cqa.Session() as db:
+            db.load("lead", self.path("src.csv"), key="id")
+            self.assertEqual((len(db.conflicts("lead")), len(db.conflicts("lead", "source"))), (1, 0))
+
+    def test_a_dump_keeps_places_sources_and_times(self) -> None:
+        self.file("s.csv", "id,a,since\n1,9.00,2024-03-01\n")
+        self.command("load", "--table", "s", "--key", "id", "--decimal", "a:2", "--time", "since", "--source-column", "shop", "--source", "x=s.csv", "-o", "s.cqa")
+        question = "ask select id, a from s;"
+        for dumped in (self.asked("run", "dump;", "s.cqa")[1].partition("copied 1\n")[2], self.command("shell", "s.cqa", stdin=b"dump;\n")[1]):
+            self.file("kept.cqa", dumped)
+            self.assertEqual(self.asked("csv", question, "kept.cqa"), (0, "id,a\n1,9.00\n", ""))
+            for mark in ("s.a has 2 places", "s.shop has the sources", "s.since has times as 2024-03-01".replace("2024", "2026")):
+                self.assertIn("-- cqa: column %s\n" % mark, dumped)
+            self.assertEqual(cqa.Session.restored(self.path("kept.cqa")).rows("s"), [(1, Decimal("9.00"), "2024-03-01", "x")])
+
+    def test_a_time_is_compared_to_a_time(self) -> None:
+        for test in ("since > '1.1.2020'", "since = '2020-13-45'", "since <= '2021'", "since < '2021-01-01T00:00Z'", "since <> ''"):
+            self.refused_by_all("select id from day where " + test, "since has times as 2026-03-01, and %s is none" % test.split(" ")[2], "day.cqa")
+        for test, answer in (("since >= '2020'", "2\n"), ("since < '2021-01'", "1\n"), ("since > '2020-02-29'", "2\n"), ("since = '2018-09-28'", "1\n")):
+            self.assertEqual(self.asked("csv", "ask select id from day where %s;" % test, "day.cqa"), (0, "id\n" + answer, ""))
+        for change in ("delete from day where since < '1.1.2020';", "prefer day where since > 'x';", "insert into day values (3, '1.3.2024');"):
+            self.assertEqual(self.asked("csv", change + " ask select id from day;", "day.cqa")[:2], (1, ""))
+        with cqa.Session() as db:
+            db.load("day", self.path("day.csv"), key="id", time="since")
+            for wrong in (lambda: db.delete("day", "since < '1.1.2020'"), lambda: db.prefer("day", "since > 'x'"), lambda: db.insert("day", [(3, "1.3.2024")])):
+                with self.assertRaises(cqa.ScaleFault):
+                    wrong()
+            self.file("later.csv", "id,since\n3,2024-03-01T00:00Z\n")
+            with self.assertRaises(cqa.LoadFault):
+                db.load("day", self.path("later.csv"))
+            self.assertEqual(len(db.rows("day")), 2)
+
+    def test_no_file_that_is_read_is_written_over(self) -> None:
+        os.symlink(self.path("t.csv"), self.path("link.csv"))
+        self.file("q.cqa", "ask select id, a from t;\n")
+        before = {name: self.read(name) for name in ("t.csv", "t.cqa", "q.cqa")}
+        for words in (("load", "--table", "t", "--key", "id", "u.csv", "t.csv", "--columns", "id", "-o", "t.csv"), ("load", "--table", "t", "--key", "id", "t.csv", "-o", "link.csv"),
+                      ("csv", "t.cqa", "q.cqa", "-o", "t.cqa"), ("csv", "t.cqa", "q.cqa", "-o", "./q.cqa"), ("report", "t.cqa", "q.cqa", "-o", "q.cqa"), ("conflicts", "t.cqa", "-o", "t.cqa")):
+            status, out, told = self.command(*words)
+            self.assertEqual((status, out), (1, ""), words)
+            self.assertIn("is read, and -o would write over it: nothing is written", told)
+        self.assertEqual(before, {name: self.read(name) for name in before})
+
+    def test_a_state_that_was_cut(self) -> None:
+        self.assertEqual(self.command("shell", "t.cqa", "u.cqa", stdin=b"\\save kept.cqa\n")[0], 0)
+        kept = self.read("kept.cqa").splitlines(True)
+        self.assertEqual(self.asked("csv", "ask select id from t;", "kept.cqa")[:2], (0, "id\n1\n2\n"))
+        cuts = [kept[:at] + kept[at + 1:] for at in range(len(kept))] + [kept[:-3], ["9".join(line.split("5")) if '"2"' in line else line for line in kept]]
+        for cut in cuts[::3] + cuts[-2:]:
+            self.file("cut.cqa", "".join(cut))
+            for command in ("run", "csv", "conflicts", "report", "shell"):
+                status, out, told = self.command(command, "cut.cqa", stdin=b"ask select id from t;\n")
+                self.assertEqual((status, out), (1, ""))
+                self.assertIn("cut.cqa: a kept state isn't whole: ", told)
+            with self.assertRaises(cqa.StateFault):
+                cqa.Session.restored(self.path("cut.cqa"))
+            with cqa.Session() as db, self.assertRaises(cqa.StateFault):
+                db.run("".join(cut))
+
+    def test_numbers_with_a_point_mean_the_same_everywhere(self) -> None:
+        tested = "ask select id, a from t where a > 5.50;"
+        self.assertEqual(self.asked("csv", tested, "t.cqa"), (0, "id,a\n1,9.00\n", ""))
+        self.assertEqual(self.asked("run", tested, "t.cqa")[1], "created t\ncopied 2\n(1, 900)\n1 rows\n")
+        self.assertEqual(self.command("shell", "t.cqa", stdin=tested.encode() + b"\n")[1], "(1, 900)\n1 rows\n")
+        self.assertEqual(self.asked("run", "against row (1, 9.00) for select id, a from t;", "t.cqa"), (0, "created t\ncopied 2\ncertain\n",
+                                                                                                      "q.cqa:1: note: a is shown as it is stored, times 100\n"))
+        self.assertIn("a is stored times 100: 9 stands for 0.09 here; write 9.00 for 9", self.asked("run", "against row (1, 9) for select id, a from t;", "t.cqa")[2])
+        self.assertEqual(self.asked("csv", "insert into t values (3, 7.25); ask select a from t where id = 3;", "t.cqa"), (0, "a\n7.25\n", ""))
+        status, out, told = self.asked("csv", "ask select id from t where a > 5.501;", "t.cqa")
+        self.assertEqual((status, out), (1, ""))
+        self.assertIn("q.cqa:1: a has 2 places, and 5.501 has more", told)
+        self.assertIn("q.cqa:1: error 2 Syntax at 41", self.asked("run", "ask select id, a from t where a > 5.50   oder a = 1;", "t.cqa")[2])
+
+    def test_records_by_hand_and_those_of_load(self) -> None:
+        self.file("line.csv", 'id,a,x\n1,9.00,"p\n\\.\nq"\n')
+        self.command("load", "--table", "n", "--key", "id", "--decimal", "a:2", "line.csv", "-o", "line.cqa")
+        self.assertEqual(self.asked("csv", "ask select a from n;", "line.cqa"), (0, "a\n9.00\n", ""))
+        self.assertIn("q.cqa:1: note: n.a is stored times 100: records write 1000.00 as 100000", self.asked("csv", "copy n;\n2,5,z\n\\.\nask select a from n;", "line.cqa")[2])
+
+    def test_the_sql_text_speaks_of_what_is_stored(self) -> None:
+        self.assertIn("the text speaks of a as it is stored here, times 100: the column there has to be so, too", self.asked("run", "sql select id from t where a >= 5.50;", "t.cqa")[2])
+        with cqa.Session() as db:
+            db.run(self.read("t.cqa"))
+            with self.assertWarnsRegex(cqa.ScaleWarning, "as it is stored here, times 100"):
+                self.assertIn('"a" >= 550', db.sql("select id from t where a >= 5.50") or "")
+
+    def test_hints_in_the_package(self) -> None:
+        with cqa.Session() as db:
+            db.run("create table c (id int, city text, primary key (id));")
+            with self.assertRaises(cqa.Refused) as caught:
+                db.certain("select id from c where city in ('K\u00f6ln', 'Berlin')")
+            self.assertEqual(caught.exception.hint, "write `ask select id from c where city = 'K\u00f6ln' union select id from c where city = 'Berlin';`: there is no `in`")
+            with self.assertRaises(cqa.Refused) as caught:
+                db.certain("select id from c where city = 7")
+            self.assertEqual(caught.exception.hint, "write `ask select id from c where city = '7';`: city is text")
+
+
 class Elsewhere(Case):
     def test_the_readmes_sql_by_hand_is_plain_sql(self) -> None:
         with open(os.path.join(TOP, "README.md"), encoding="utf-8") as file:
