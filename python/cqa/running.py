@@ -323,7 +323,10 @@ def loaded(paths: Sequence[str], answers: Optional[List[Answer]] = None, is_apar
     notes = Notes(is_shown=False)
     try:
         for file in files:
-            session.heed(file.script)
+            try:
+                session.heed(file.script)
+            except ScaleFault as fault:
+                raise ScaleFault("%s: %s" % (file.path, fault)) from None
         run = run_files(files, child, False, True) if before is None else Runner(child, files, True).answers_in_step(partial(before, session))
         for answer in run:
             notes.tell(answer)

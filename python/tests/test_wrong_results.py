@@ -271,7 +271,7 @@ class ListsOfOnesOwn(ProgramCase):
         status, out, told = self.asked("csv", "range count from t, u where a = b;", "t.cqa", "u.cqa")
         self.assertEqual((status, out), (1, ""))
         self.assertIn("t.a has 2 places and u.b has none", told)
-        self.assertEqual(self.asked("csv", "ask select t.id from t, w where a = d;", "t.cqa", "w.cqa"), (0, "id\n1\n", ""))
+        self.assertEqual(self.asked("csv", "ask select t.id from t, w where a = d;", "t.cqa", "w.cqa"), (0, "t.id\n1\n", ""))
 
     def test_scripts_that_say_different_things_of_a_column(self) -> None:
         self.file("other.cqa", "-- cqa: column t.a has 3 places\n")
