@@ -3,6 +3,7 @@
 from __future__ import annotations
 
 import contextlib
+import errno
 import io
 import os
 import sys
@@ -17,7 +18,7 @@ _is_unwritten = False
 
 @contextlib.contextmanager
 def unwritten() -> Iterator[None]:
-    """Within it no file and no standard output is written."""
+    """Within it no file and no standard output is written; where a file's folder isn't there, or can't be written, that is raised."""
     global _is_unwritten
     before, _is_unwritten = _is_unwritten, True
     try:
@@ -32,10 +33,15 @@ def written(path: str) -> Iterator[BinaryIO]:
 
     Where the path is no ordinary file, as /dev/stdout, it is written as it is.
     """
+    is_file = os.path.isfile(path) or not os.path.exists(path)
     if _is_unwritten:
+        folder = os.path.dirname(os.path.realpath(path))
+        if is_file and not os.access(folder, os.W_OK):
+            fault = errno.EACCES if os.path.exists(folder) else errno.ENOENT
+            raise OSError(fault, os.strerror(fault), folder)
         yield io.BytesIO()
         return
-    if os.path.exists(path) and not os.path.isfile(path):
+    if not is_file:
         with open(path, "wb") as stream:
             yield stream
         return

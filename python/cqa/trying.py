@@ -18,6 +18,7 @@ from .rehearsal import Known, StandIn, Told, learnt, script_of
 from .unproved import MOST_INPUT, NotCompiled, Outcome, Run, compile_time, kit, outcomes
 
 _NAME = "the unproved program"
+_MOST_ROUNDS = 5
 _USAGE = """cqa try <SCRIPT                   runs a script from standard input, unproved; so does `try run <SCRIPT`
 cqa try COMMAND [then COMMAND ..] runs commands by one compile: run FILE .., csv, conflicts, report, check <PROOF, demo SIZE, load
 """
@@ -26,10 +27,11 @@ _COMMANDS: Dict[str, Callable[[Sequence[str]], int]] = {
 
 
 class Ending(NamedTuple):
-    """How a rehearsal ended: its status, and what has to be run before it can be played."""
+    """How a rehearsal ended: its status, what has to be run before it can be played, and what of the system no run mends."""
 
     status: int
     runs: Sequence[Run]
+    fault: Optional[OSError] = None
 
 
 class Piece:
@@ -83,12 +85,15 @@ class Spoken(Piece):
 
     def rehearsed(self) -> Ending:
         with unwritten(), warnings.catch_warnings(), contextlib.redirect_stdout(io.StringIO()), contextlib.redirect_stderr(io.StringIO()):
+            fault = None
             try:
                 status = self.played()
+            except OSError as raised:
+                status, fault = 1, raised
             except Exception:  # a guess leads astray; or it is raised again where the command is played
                 status = 1
         self._sent = [told for told in (child.told() for child in self._children) if told]
-        return Ending(status, [Run(("run",), script_of(told)) for told in self._sent])
+        return Ending(status, [Run(("run",), script_of(told)) for told in self._sent], fault)
 
     def learn(self, results: Sequence[Outcome]) -> None:
         for told, result in zip(self._sent, results):
@@ -145,8 +150,10 @@ def _main(arguments: Sequence[str]) -> int:
         if isinstance(piece, int):
             return piece
         first = piece.rehearsed()
+        if first.fault is not None:
+            return ended_with(words[0], partial(_raised, first.fault))
         if first.status and not first.runs:
-            return ended_with(words[0], piece.played)  # its words or its files are at fault, and a compile mends none
+            return ended_with(words[0], piece.played)  # its words are at fault, and a compile mends none
         pieces.append(piece)
     _run_all(pieces)
     statuses = [ended_with(piece.words[0], piece.played) for piece in pieces]
@@ -205,8 +212,7 @@ def _piece(words: Sequence[str], known: Known) -> "Piece | int":
 
 def _run_all(pieces: Sequence[Piece]) -> None:
     """Compiles and runs until every reply is known that the commands ask for: once, or twice where a question depends on a reply."""
-    count = 0
-    while True:
+    for count in range(_MOST_ROUNDS):
         waiting = [(piece, ending.runs) for piece, ending in ((piece, piece.rehearsed()) for piece in pieces) if ending.runs]
         if not waiting:
             return
@@ -218,7 +224,11 @@ def _run_all(pieces: Sequence[Piece]) -> None:
         results = iter(outcomes(_top(), runs))
         for piece, some in waiting:
             piece.learn([next(results) for _ in some])
-        count += 1
+    raise NotCompiled("the replies lead to ever more questions: ./cqa build")
+
+
+def _raised(fault: OSError) -> int:
+    raise fault
 
 
 def _tell(count: int) -> None:

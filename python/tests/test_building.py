@@ -131,6 +131,9 @@ class TryTest(KitCase, ProgramCase):
                 found, out, told = self.tried(*words)
                 self.assertEqual((found, out, self.compiles()), (status, "", 0))
                 self.assertNotEqual(told, "")
+        self.file("t.cqa", LISTS)
+        self.assertEqual(self.tried("conflicts", "t.cqa", "-o", self.path("none/out")), (1, "", "cqa conflicts: %s: no such file or directory\n" % self.path("none")))
+        self.assertEqual(self.compiles(), 0)
 
     def test_runs_that_give_nothing_are_told_in_a_line(self) -> None:
         for more, told in (({"CHECK": "fault kind=overflow in=cdcl"}, "please report it"), ({"CHECK": "no-answer: the program did not end within the time limit"}, "did not end"),
