@@ -419,8 +419,8 @@ class Page(HTMLParser):
             self._heading += data
 
     def rows(self, heading):
-        """The rows of the first table behind a heading that begins so."""
-        return next(([row for row in rows if row] for name, rows in self.tables if name.strip().startswith(heading)), [])
+        """The rows behind a heading that begins so: those that are seen at first, and more."""
+        return [row for name, rows in self.tables if name.strip().startswith(heading) for row in rows if row]
 
 
 def compare(what, expected, told):

@@ -35,12 +35,15 @@ def csv_main(arguments: Sequence[str]) -> int:
         print("cqa csv: nothing is written", file=sys.stderr)
         return 1
     with session:
-        last = next((answer for answer in reversed(answers) if answer.verb in QUESTIONS + ENDS), None)
+        asked = [answer for answer in answers if answer.verb in QUESTIONS + ENDS]
+        last = asked[-1] if asked else None
         if last is None:
             print("cqa csv: no statement of %s is an ask, a possible, a disputed or a range" % ", ".join(told.files), file=sys.stderr)
             return 1
         lines = [line.decode("utf-8") for line in last.lines]
         text = (session.ends_of(last.text, lines) if last.verb in ENDS else session.rows_of(last.text, lines)).csv_text()
+    if len(asked) > 1:
+        print("cqa csv: note: of %d questions the last one is written, %s:%d" % (len(asked), last.path, last.line), file=sys.stderr)
     _write(text, told.output)
     return 0
 

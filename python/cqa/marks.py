@@ -7,15 +7,15 @@ import re
 from dataclasses import dataclass, field
 from typing import Dict, Iterator, List, Tuple
 
+from .errors import ScaleFault
 from .scripts import gaps
 
 #: A column: its table and its name.
 Name = Tuple[str, str]
 
-_PLACES = re.compile(rb"^-- cqa: column (\w+)\.(\w+) has (\d{1,2}) places$", re.M)
-_TIMES = re.compile(rb"^-- cqa: column (\w+)\.(\w+) has times as (\S+)$", re.M)
-_SOURCES = re.compile(rb"^-- cqa: column (\w+)\.(\w+) has the sources$", re.M)
 _BEGINS = b"-- cqa: column "
+_LINE = re.compile(rb"^-- cqa: column ([^\n]*)", re.M)
+_COLUMN = re.compile(rb"(\w+)\.(\w+) has (?:(\d{1,2}) places|times as (\S+)|(the sources))\s*\Z")
 
 STATE_HEAD = b"-- cqa state: a script that makes the tables again; its last line tells by what it is seen to be whole\n"
 _STATE_BEGINS = b"-- cqa state: "
@@ -63,15 +63,30 @@ class Marks:
 
 
 def marks_of(script: bytes) -> Marks:
-    """What the comments between statements say of columns. What stands in a text or in a block is no comment."""
+    """What the comments between statements say of columns. What stands in a text or in a block is no comment. Raises ScaleFault for a
+    comment that begins so and says nothing known, and where two say different things of a column."""
     found = Marks()
     if _BEGINS not in script:
         return found
     for _, comments in gaps(script, script.rfind(_BEGINS)):
-        found.places.update({(table.decode(), column.decode()): int(count) for table, column, count in _PLACES.findall(comments)})
-        found.times.update({(table.decode(), column.decode()): form.decode("utf-8", "replace") for table, column, form in _TIMES.findall(comments)})
-        found.sources.update({table.decode(): column.decode() for table, column in _SOURCES.findall(comments)})
+        for line in _LINE.findall(comments):
+            mark = _mark_of(line)
+            fault = found.disagreement(mark)
+            if fault:
+                raise ScaleFault(fault)
+            found.add(mark)
     return found
+
+
+def _mark_of(line: bytes) -> Marks:
+    """What a comment says of a column, behind `-- cqa: column`."""
+    told = _COLUMN.match(line)
+    if told is None:
+        raise ScaleFault("what this comment says of a column isn't known: -- cqa: column %s" % line.decode("utf-8", "replace").strip())
+    name = told[1].decode(), told[2].decode()
+    if told[3]:
+        return Marks(places={name: int(told[3])})
+    return Marks(times={name: told[4].decode("utf-8", "replace")}) if told[4] else Marks(sources={name[0]: name[1]})
 
 
 def state_text(script: bytes) -> bytes:

@@ -59,6 +59,14 @@ class ScriptFile:
             raise InputTooLong(6, path)
 
 
+def _marks_of(file: ScriptFile) -> Marks:
+    """What the comments of a file say of columns. Raises ScaleFault with the file's path."""
+    try:
+        return marks_of(file.script)
+    except ScaleFault as fault:
+        raise ScaleFault("%s: %s" % (file.path, fault)) from None
+
+
 class _Sent(NamedTuple):
     """A statement, with what it means over the columns that the comments of scripts speak of. fault: why it isn't sent. cause: why it
     isn't sent, in words of this package, and where in the statement, in letters."""
@@ -86,7 +94,7 @@ class Runner:
             fault = state_fault(file.script)
             if fault:
                 raise StateFault("%s: %s" % (file.path, fault))
-            marks = marks_of(file.script)
+            marks = _marks_of(file)
             if self._marks.disagreement(marks):
                 raise ScaleFault("%s: %s" % (file.path, self._marks.disagreement(marks)))
             self._marks.add(marks)

@@ -114,7 +114,7 @@ class Session:
             raise ValueError("the script ends within a statement: %r" % script[parts[-1].start:][:200])
         own = marks_of(script)
         for part in parts:
-            yield [line.decode("utf-8") for line in self._told(script, part, _MADE if is_state(script) else care, own)]
+            yield [line.decode("utf-8") for line in self._told(script, part, care, own)]
 
     def meaning(self, text: str) -> Meaning:
         """What a statement means over the columns of which the comments of scripts and the options of `load` say something."""

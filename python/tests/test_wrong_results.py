@@ -280,6 +280,16 @@ class ListsOfOnesOwn(ProgramCase):
             self.assertEqual((status, out), (1, ""))
             self.assertIn("other.cqa: t.a has 2 places by one comment and 3 by another", told)
 
+    def test_a_comment_that_says_nothing_known(self) -> None:
+        script = self.read("t.cqa")
+        for wrong in (script.replace("has 2 places", "has two places"), script + "-- cqa: column t.a has 3 places\n"):
+            self.file("wrong.cqa", wrong)
+            status, out, told = self.asked("csv", "ask select a from t;", "wrong.cqa")
+            self.assertEqual((status, out), (1, ""))
+            self.assertIn("wrong.cqa: ", told)
+        self.file("crlf.cqa", script.replace("\n", "\r\n"))
+        self.assertEqual(self.asked("csv", "ask select a from t;", "crlf.cqa"), (0, "a\n5.50\n9.00\n", ""))
+
     def test_a_lists_own_column_called_source(self) -> None:
         self.file("src.csv", "id,name,source\n1,Ada,web\n1,Ada,phone\n2,Bo,web\n")
         self.command("load", "--table", "lead", "--key", "id", "src.csv", "-o", "src.cqa")
