@@ -110,6 +110,9 @@ def _main(told: argparse.Namespace) -> int:
         if not session.tables():
             print("cqa report: %s makes no table; nothing is written" % ", ".join(told.files), file=sys.stderr)
             return 1
+        if told.source and not any(told.source in schema.columns for schema in session.tables()):
+            print("cqa report: no table has a column %s; nothing is written" % told.source, file=sys.stderr)
+            return 1
         questions.answer(session)
         text = report(session, questions.parts, ", ".join(os.path.basename(path) for path in told.files), told.source)
     with written(told.output) if told.output else standard_output() as out:

@@ -298,6 +298,7 @@ class ListsOfOnesOwn(ProgramCase):
         self.assertIn("lead.source counts as the other columns do; --source source says that it tells where a row is from", told)
         self.assertEqual(self.command("conflicts", "--source", "source", "src.cqa"), (0, "lead: 2 keys, 0 in conflict\n", ""))
         self.assertNotIn("No key of this table is in conflict", self.command("report", "src.cqa")[1])
+        self.assertEqual(self.command("report", "--source", "sorce", "src.cqa"), (1, "", "cqa report: no table has a column sorce; nothing is written\n"))
         with cqa.Session() as db:
             db.load("lead", self.path("src.csv"), key="id")
             self.assertEqual((len(db.conflicts("lead")), len(db.conflicts("lead", "source"))), (1, 0))
