@@ -2,16 +2,23 @@
 
 from __future__ import annotations
 
-from dataclasses import dataclass, field
+import re
+from collections import Counter
+from decimal import Decimal
 from itertools import groupby
-from typing import Dict, Iterable, List, Optional, Sequence, Tuple
+from operator import itemgetter
+from typing import Callable, Dict, Iterable, Iterator, List, NamedTuple, Optional, Sequence, Tuple
 
 from .rows import Cell, Rows
 from .unseen import seen
 
+#: A row as a dump writes it: a text for each column.
+Row = Sequence[str]
 
-@dataclass(frozen=True)
-class Disputed:
+_PLAIN = re.compile(r"[!-\[\]-~](?:[ -\[\]-~]*[!-\[\]-~])?")
+
+
+class Disputed(NamedTuple):
     """A key whose rows differ.
 
     key: its values. values: for each column that differs, its values with the sources of each (none where the table has no
@@ -23,32 +30,137 @@ class Disputed:
     rows: List[Tuple[Cell, ...]]
 
 
-@dataclass
+class Columns:
+    """The columns of a table as they are written in a dump, and how their values are read.
+
+    names: the columns. key: where those of the key stand, in its order; order: where these stand, and then the others. source: where
+    the column of sources stands, which is none of the key, if any. compared: where those stand in which rows may differ.
+    """
+
+    def __init__(self, kinds: Dict[str, str], key: Sequence[str], source: Optional[str], places: Dict[str, int]) -> None:
+        """kinds: "int" or "text" by column. places: by column, how many places its numbers have."""
+        self.names = list(kinds)
+        self.key = [self.names.index(name) for name in key]
+        self.source = self.names.index(source) if source in kinds and source not in key else None
+        self.compared = [at for at in range(len(self.names)) if at not in self.key and at != self.source]
+        self.order = self.key + [at for at in range(len(self.names)) if at not in self.key]
+        self.are_scaled = [name in places for name in kinds]
+        self.readers = [_reader(kind, places.get(name, -1)) for name, kind in kinds.items()]
+
+    def read(self, row: Row, places: Iterable[int]) -> Tuple[Cell, ...]:
+        """The values of a row in some columns."""
+        return tuple(self.readers[at](row[at]) for at in places)
+
+    def in_order(self, row: Sequence[object]) -> Row:
+        """The texts of a row whose values come in the order `order`."""
+        texts = [""] * len(row)
+        for at, value in zip(self.order, row):
+            texts[at] = str(value)
+        return texts
+
+    def differing(self, rows: Sequence[Row]) -> List[int]:
+        """The compared columns in which rows differ."""
+        if len(rows) == 2:
+            one, other = rows
+            return [at for at in self.compared if one[at] != other[at]]
+        return [at for at in self.compared if len({row[at] for row in rows}) > 1]
+
+
+def _reader(kind: str, places: int) -> Callable[[str], Cell]:
+    """How a value of a dump is read."""
+    if places >= 0:
+        return lambda text: Decimal(text).scaleb(-places)
+    return int if kind == "int" else str
+
+
 class Conflicts:
     """What of a table is in conflict. Rows that differ in their source alone are in no conflict.
 
-    keys: the number of different keys. by_column: for each column outside the key, the number of keys in which it differs.
-    disputed: the keys in conflict, ascending.
+    table: its name. key: the columns of its key. columns: those of the rows, the key first. source: the column of sources, if any.
+    keys, rows: how many there are. by_column: for each column outside the key, the number of keys in which it differs.
+    by_source: for each source its number of rows, and of keys that have no row of another source.
     """
 
-    table: str
-    key: Tuple[str, ...]
-    columns: Tuple[str, ...]
-    source: Optional[str]
-    keys: int = 0
-    rows: int = 0
-    by_column: Dict[str, int] = field(default_factory=dict)
-    disputed: List[Disputed] = field(default_factory=list)
+    def __init__(self, table: str, columns: Columns) -> None:
+        self.table = table
+        self.key = tuple(columns.names[at] for at in columns.key)
+        self.columns = tuple(columns.names[at] for at in columns.order)
+        self.source = None if columns.source is None else columns.names[columns.source]
+        self.keys = 0
+        self.rows = 0
+        self.by_column: Dict[str, int] = {columns.names[at]: 0 for at in columns.compared}
+        self.by_source: Dict[Cell, Tuple[int, int]] = {}
+        self._columns = columns
+        self._blocks: List[Tuple[List[int], List[Row]]] = []
+        self._disputed: Optional[List[Disputed]] = None
+
+    @property
+    def disputed(self) -> List[Disputed]:
+        """The keys in conflict, ascending."""
+        if self._disputed is None:
+            self._disputed = [self._read(differing, rows) for differing, rows in self._blocks]
+        return self._disputed
+
+    def worst(self, most: int) -> List[Disputed]:
+        """The keys in conflict that differ in most columns, then those with most rows."""
+        found = sorted(self._blocks, key=lambda block: (-len(block[0]), -len(block[1])))[:most]
+        return [self._read(differing, rows) for differing, rows in found]
+
+    def _read(self, differing: Sequence[int], rows: Sequence[Row]) -> Disputed:
+        columns = self._columns
+        values: Dict[str, Dict[Cell, List[Cell]]] = {}
+        for at in differing:
+            of_column = values.setdefault(columns.names[at], {})
+            for value, sources in _values(rows, at, columns.source).items():
+                of_column[columns.readers[at](value)] = list(sources)
+        return Disputed(columns.read(rows[0], columns.key), values, [columns.read(row, columns.order) for row in rows])
+
+    def add(self, rows: Iterable[Row]) -> None:
+        """Counts rows, which come in the order of their keys."""
+        columns, source = self._columns, self._columns.source
+        alone: "Counter[str]" = Counter()
+        all_rows: "Counter[str]" = Counter()
+        counts = [0] * len(columns.names)
+        for _, of_key in groupby(rows, key=itemgetter(*columns.key)):
+            block = list(of_key)
+            self.keys += 1
+            self.rows += len(block)
+            if source is not None:
+                sources = [row[source] for row in block]
+                all_rows.update(sources)
+                if len(block) == 1 or len(set(sources)) == 1:
+                    alone[sources[0]] += 1
+            if len(block) > 1:
+                differing = columns.differing(block)
+                if differing:
+                    self._blocks.append((differing, block))
+                    for at in differing:
+                        counts[at] += 1
+        for at in columns.compared:
+            self.by_column[columns.names[at]] += counts[at]
+        self.by_source.update((name, (all_rows[name], alone[name])) for name in sorted(all_rows))
 
     def __len__(self) -> int:
         """The number of keys in conflict."""
-        return len(self.disputed)
+        return len(self._blocks)
 
     def __str__(self) -> str:
-        columns = ["%s %d" % (name, count) for name, count in self.by_column.items() if count]
-        shown = ": " + ", ".join(columns) if columns else ""
-        head = "%s: %d key%s, %d in conflict%s\n" % (self.table, self.keys, "" if self.keys == 1 else "s", len(self), shown)
-        return head + "".join(_block_line(block) for block in self.disputed)
+        return "".join(self.lines())
+
+    def lines(self) -> Iterator[str]:
+        """What is in conflict as lines of text with their line feeds: the counts, and a line for each key."""
+        found = ["%s %d" % (name, count) for name, count in self.by_column.items() if count]
+        shown = ": " + ", ".join(found) if found else ""
+        yield "%s: %d key%s, %d in conflict%s\n" % (self.table, self.keys, "" if self.keys == 1 else "s", len(self), shown)
+        columns = self._columns
+        readers = [reader if is_scaled else None for reader, is_scaled in zip(columns.readers, columns.are_scaled)]
+        for differing, rows in self._blocks:
+            first = rows[0]
+            key = ", ".join([_text(first[at], readers[at]) for at in columns.key])
+            parts = ["%s: %s" % (columns.names[at], " | ".join([
+                _text(value, readers[at]) + (" (%s)" % ", ".join(map(_shown, sources)) if sources else "")
+                for value, sources in _values(rows, at, columns.source).items()])) for at in differing]
+            yield "%s  %s\n" % (key, "   ".join(parts))
 
     def listed(self) -> Rows:
         """A row for each value in conflict: the key, the column, the value, and its sources with a comma between two."""
@@ -67,52 +179,27 @@ class Conflicts:
         return Rows((", ".join(self.key), "column", "values"), rows)._repr_html_()
 
 
-def conflicts_of(table: str, names: Sequence[str], key: Sequence[str], source: Optional[str],
-                 rows: Iterable[Tuple[Cell, ...]]) -> Conflicts:
-    """The conflicts of a table whose rows come in the order of its key, with the columns of the key first.
-
-    names: the columns in the order of the rows' values. source: the column of sources, which is none of the key, if any.
-    """
-    width = len(key)
-    compared = [(at, name) for at, name in enumerate(names) if at >= width and name != source]
-    by_source = names.index(source) if source in names else None
-    found = Conflicts(table, tuple(key), tuple(names), source, by_column={name: 0 for _, name in compared})
-    for values, block in groupby(rows, key=lambda row: row[:width]):
-        rows_of_key = list(block)
-        found.keys += 1
-        found.rows += len(rows_of_key)
-        if len(rows_of_key) > 1:
-            _add(found, values, rows_of_key, compared, by_source)
-    return found
-
-
-def _add(found: Conflicts, key: Tuple[Cell, ...], rows: List[Tuple[Cell, ...]], compared: List[Tuple[int, str]],
-         by_source: Optional[int]) -> None:
-    """Counts a key of several rows, where they differ in a column that is compared."""
-    differing: Dict[str, Dict[Cell, List[Cell]]] = {}
-    for at, name in compared:
-        if any(row[at] != rows[0][at] for row in rows):
-            values: Dict[Cell, List[Cell]] = {}
-            for row in rows:
-                sources = values.setdefault(row[at], [])
-                if by_source is not None and row[by_source] not in sources:
-                    sources.append(row[by_source])
-            differing[name] = values
-            found.by_column[name] += 1
-    if differing:
-        found.disputed.append(Disputed(key, differing, rows))
+def _values(rows: Sequence[Row], at: int, source: Optional[int]) -> Dict[str, Dict[str, None]]:
+    """The values of a block in a column, with the sources of each."""
+    values: Dict[str, Dict[str, None]] = {}
+    for row in rows:
+        sources = values.setdefault(row[at], {})
+        if source is not None:
+            sources[row[source]] = None
+    return values
 
 
 def _values_text(values: Dict[Cell, List[Cell]]) -> str:
-    return " | ".join("%s%s" % (_shown(value), " (%s)" % ", ".join(map(_shown, sources)) if sources else "")
+    return " | ".join("%s%s" % (_shown(str(value)), " (%s)" % ", ".join(_shown(str(source)) for source in sources) if sources else "")
                       for value, sources in values.items())
 
 
-def _block_line(block: Disputed) -> str:
-    parts = ["%s: %s" % (name, _values_text(values)) for name, values in block.values.items()]
-    return "%s  %s\n" % (", ".join(map(_shown, block.key)), "   ".join(parts))
+def _text(value: str, reader: Optional[Callable[[str], Cell]]) -> str:
+    return _shown(value if reader is None else str(reader(value)))
 
 
-def _shown(value: Cell) -> str:
+def _shown(value: str) -> str:
     """A value in a line of its own: line feeds are written as \\n, and what nobody sees is marked."""
-    return "''" if value == "" else seen(str(value).replace("\\", "\\\\").replace("\n", "\\n").replace("\r", "\\r"))
+    if _PLAIN.fullmatch(value):
+        return value
+    return "''" if value == "" else seen(value.replace("\\", "\\\\").replace("\n", "\\n").replace("\r", "\\r"))

@@ -77,7 +77,7 @@ def conflicts_main(arguments: Sequence[str]) -> int:
             print("cqa conflicts: --csv wants one table: %s" % ", ".join(tables or there), file=sys.stderr)
             return 1
         try:
-            found = [session.conflicts(table, told.source) for table in tables or there]
+            found = session.conflicts_of(tables or there, told.source)
             for one in found:
                 _tell_source(one)
             text = found[0].listed().csv_text() if told.csv else "".join(map(str, found))

@@ -7,13 +7,14 @@ import os
 import shutil
 import subprocess
 import threading
-from typing import IO, BinaryIO, Callable, Iterator, List, Optional, Protocol, Tuple, Union
+from typing import IO, BinaryIO, Callable, Iterator, List, Optional, Protocol, Tuple, TypeVar, Union
 
 from .errors import Closed, Ended, NotBuilt, ended
 from .replies import END_LINE, END_STATEMENT, reply_lines
 
 _BUILT = os.path.join("crates", "cqa_cli", "out", "cqa_cli")
 _PIECE = 1 << 20
+Result = TypeVar("Result")
 
 
 def found_program(given: Optional[str] = None) -> str:
@@ -127,6 +128,11 @@ class Child:
         """Sends one complete statement and gives the lines of its reply. Where this is interrupted the program is ended, so that
         no later statement gets this one's reply; threads wait for each other. Raises Closed where it was ended before, and Ended
         where it ends."""
+        return self.read(statement, lambda _: self.reply(verb))
+
+    def read(self, statement: bytes, reader: Callable[[BinaryIO], Result]) -> Result:
+        """As `tell`, and gives what a function makes of the reply as it comes, which it reads up to that of the empty statement; it raises
+        EOFError where the replies end before."""
         with self._lock:
             if self.closed_by:
                 raise Closed(self.closed_by)
@@ -135,7 +141,10 @@ class Child:
                     self.write(statement)
                     self.write(END_STATEMENT)
                     self.flush()
-                return self.reply(verb)
+                try:
+                    return reader(self.replies)
+                except EOFError:
+                    raise self._ending() from None
             except BaseException as fault:
                 self.kill(str(fault) if isinstance(fault, Ended) else "the session was interrupted in a statement, and is ended")
                 raise

@@ -3,6 +3,7 @@
 from __future__ import annotations
 
 import csv
+import io
 import re
 from typing import Dict, Iterator, List, NamedTuple, Optional, Tuple, Union
 
@@ -143,20 +144,12 @@ def fault_of(script: bytes, statement: Statement) -> str:
         return ""
     number = 0
     try:
-        for record in csv.reader(_block_lines(script, *statement.block), strict=True):
-            number += bool(record)
+        with io.BytesIO(script[statement.block[0]:statement.block[1]]) as block:
+            for record in csv.reader(io.TextIOWrapper(block, encoding="latin-1", newline="\n"), strict=True):
+                number += bool(record)
     except csv.Error:
         return "error 19 BadCsv record %d" % (number + 1)
     return ""
-
-
-def _block_lines(script: bytes, begin: int, end: int) -> Iterator[str]:
-    """The lines of a block with their ends."""
-    while begin < end:
-        found = script.find(b"\n", begin, end) + 1
-        line_end = found or end
-        yield script[begin:line_end].decode("latin-1")
-        begin = line_end
 
 
 def without_comments(text: str) -> str:

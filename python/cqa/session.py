@@ -10,6 +10,7 @@ import warnings
 from dataclasses import replace
 from decimal import Decimal
 from enum import Enum
+from functools import partial
 from types import TracebackType
 from typing import Dict, Iterable, Iterator, List, Mapping, Optional, Sequence, Tuple, Type, Union
 
@@ -17,7 +18,8 @@ from . import answers
 from .answers import Classification, Explanation, Group, Kept, Range, UnionClassification
 from .blocks import create_text, rows_script
 from .columns import is_in_range, scaled
-from .conflicts import Conflicts, conflicts_of
+from .conflicts import Columns, Conflicts
+from .dumps import read_dump
 from .errors import LoadFault, LoadWarning, NoSuchName, Refused, ReplyFault, ScaleFault, ScaleWarning, StateFault, UnknownStatement
 from .files import written
 from .loading import Source, load_script
@@ -345,14 +347,30 @@ class Session:
         source: the column of sources; where it isn't told, that with which the table was loaded. Another one, whatever it is called, counts.
         Rows that differ in their source alone are in no conflict. Raises NoSuchName, a KeyError, where the table isn't there.
         """
-        schema = self._there(table)
-        names = schema.key + [name for name in schema.columns if name not in schema.key]
+        return self.conflicts_of([table], source)[0]
+
+    def conflicts_of(self, tables: Sequence[str], source: Optional[str] = None) -> List[Conflicts]:
+        """As `conflicts`, of several tables by one pass over what is stored. source: where it is told, each has such a column."""
+        found = {table: Conflicts(table, self._columns(self._there(table), source)) for table in tables}
+
+        def take(table: str, rows: Iterable[Sequence[str]]) -> None:
+            if table in found:
+                found[table].add(rows)
+
+        for table in self._child.read(b"dump;", partial(read_dump, take=take)) & found.keys():
+            columns = self._columns(self._there(table), source)
+            rows = self._lines("possible select %s from %s;" % (", ".join(columns.names[at] for at in columns.order), table))[:-1]
+            found[table] = Conflicts(table, columns)
+            found[table].add(columns.in_order(row_of(line)) for line in rows)
+        return [found[table] for table in tables]
+
+    def _columns(self, schema: Schema, source: Optional[str]) -> Columns:
+        """How the rows of a table are read. Raises NoSuchName where it has no such column of sources."""
         if source is not None and source not in schema.columns:
-            raise NoSuchName("%s has no column %s" % (table, source))
-        told = source or self._marks.sources.get(table)
-        lines = self._lines("possible select %s from %s;" % (", ".join(names), table))
-        rows = self._scaled(map(row_of, lines[:-1]), self._column_places(names, [table]))
-        return conflicts_of(table, names, schema.key, told if told not in schema.key else None, rows)
+            raise NoSuchName("%s has no column %s" % (schema.table, source))
+        told = source or self._marks.sources.get(schema.table)
+        places = {name: count for (table, name), count in self._marks.places.items() if table == schema.table}
+        return Columns(schema.columns, schema.key, told, places)
 
     def _there(self, table: str) -> Schema:
         schema = self.schema(table)
