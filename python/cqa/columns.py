@@ -212,6 +212,11 @@ class DateColumn(TextColumn):
         super().__init__(name)
         self._order = "YMD"
 
+    @property
+    def form(self) -> str:
+        """A date of the form in which all are stored."""
+        return time_form(len("2026-03-01"))
+
     def begin(self, form: Form, name: str) -> None:
         self._order = form.dates.get(self.name, "YMD")
 

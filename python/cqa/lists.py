@@ -432,7 +432,7 @@ class Lists:
 
     def times(self) -> Dict[str, str]:
         """The columns of times, each with a time of its form."""
-        return {column.name: column.form for column in self._columns if isinstance(column, TimeColumn) and column.form}
+        return {column.name: column.form for column in self._columns if isinstance(column, (TimeColumn, DateColumn)) and column.form}
 
     def _source_place(self) -> int:
         """Where among the columns that of sources stands: behind all of a new table."""

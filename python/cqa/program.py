@@ -19,7 +19,7 @@ Result = TypeVar("Result")
 
 def found_program(given: Optional[str] = None) -> str:
     """The path of the built program: the one given, that of the variable CQA_PROGRAM, that of the repository in which this
-    file stands, `cqa_cli` on the path, or that of the repository to which a `cqa` on the path belongs.
+    file stands or from which it was installed, `cqa_cli` on the path, or that of the repository to which a `cqa` on the path belongs.
 
     Raises NotBuilt where there is none.
     """
@@ -27,7 +27,7 @@ def found_program(given: Optional[str] = None) -> str:
     if named:
         return _runnable(named)
     here = os.path.dirname(os.path.dirname(os.path.dirname(os.path.abspath(__file__))))
-    candidates = [os.path.join(here, _BUILT), shutil.which("cqa_cli") or ""]
+    candidates = [os.path.join(top, _BUILT) for top in (here, _installed_from()) if top] + [shutil.which("cqa_cli") or ""]
     wrapper = shutil.which("cqa")
     if wrapper:
         candidates.append(os.path.join(os.path.dirname(os.path.realpath(wrapper)), _BUILT))
@@ -36,6 +36,15 @@ def found_program(given: Optional[str] = None) -> str:
             return path
     raise NotBuilt("the program isn't built: in the repository `./cqa build` proves and builds it, and `./cqa try WORDS ..` answers in a "
                    "minute or two, unproved; CQA_PROGRAM names one that is elsewhere")
+
+
+def _installed_from() -> str:
+    """The repository from which `pip install ./python` took this package, or nothing."""
+    try:
+        with open(os.path.join(os.path.dirname(os.path.abspath(__file__)), "repository.txt"), encoding="utf-8", errors="surrogateescape") as file:
+            return file.read()
+    except OSError:
+        return ""
 
 
 def _runnable(path: str) -> str:

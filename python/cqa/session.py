@@ -27,6 +27,7 @@ from .marks import Marks, is_state, marks_of, state_fault, state_text
 from .meaning import Meaning, copy_notes, is_of_form, meaning_of
 from .options import ByList, ListOptions, forms_by_list, word_of
 from .origins import Origin, origin_text, origins_of
+from .parameters import Parameters, filled
 from .places import place_of
 from .program import Child
 from .replies import IS_REFUSAL, row_of
@@ -380,55 +381,66 @@ class Session:
 
     # -- ask ----------------------------------------------------------------------------------------------------------------
 
-    def certain(self, query: str) -> Rows:
+    def certain(self, query: str, parameters: Parameters = ()) -> Rows:
         """The certain rows of a query, `select .. from .. where ..` or `exists ..`, or of a union of such: those that every repair
-        gives. Raises Refused."""
-        return self._answer("ask", query)
+        gives. Raises Refused.
 
-    def possible(self, query: str) -> Rows:
+        parameters, here and of the other methods that take a query: the values that stand for each `?` in it, as
+        certain("select id from customer where name = ?", ["O'Neill"]), or for each `:name`, as {"name": "O'Neill"}. They are quoted, and
+        numbers of a column with places, int or Decimal, are scaled as by `insert`. Raises ValueError where one is missing or left over, or
+        has more places than its column.
+        """
+        return self._answer("ask", query, parameters)
+
+    def possible(self, query: str, parameters: Parameters = ()) -> Rows:
         """The possible rows of a query: those that some repair gives. Raises Refused."""
-        return self._answer("possible", query)
+        return self._answer("possible", query, parameters)
 
-    def disputed(self, query: str) -> Rows:
+    def disputed(self, query: str, parameters: Parameters = ()) -> Rows:
         """The rows that are possible and not certain. Raises Refused; UnknownStatement where the program is too old."""
-        return self._answer("disputed", query)
+        return self._answer("disputed", query, parameters)
 
-    def explain(self, row: Sequence[Cell], query: str) -> Explanation:
+    def explain(self, row: Sequence[Cell], query: str, parameters: Parameters = ()) -> Explanation:
         """Why a row is certain, or a repair in which it is no answer. Raises Refused."""
-        return self._shown_explanation(answers.explanation(self._of_row("explain", row, query)))
+        return self._shown_explanation(answers.explanation(self._of_row("explain", row, query, parameters)))
 
-    def against(self, row: Sequence[Cell], query: str) -> Explanation:
+    def against(self, row: Sequence[Cell], query: str, parameters: Parameters = ()) -> Explanation:
         """The rows by which a row is no answer: no repair that keeps them has a witness of it, and none of them can be left out. Or that
         it is certain. Raises Refused; UnknownStatement where the program is too old."""
-        return self._shown_explanation(answers.against(self._of_row("against", row, query)))
+        return self._shown_explanation(answers.against(self._of_row("against", row, query, parameters)))
 
-    def prove(self, row: Sequence[Cell], query: str) -> Explanation:
+    def prove(self, row: Sequence[Cell], query: str, parameters: Parameters = ()) -> Explanation:
         """A certificate that a row is certain, which `cqa check` verifies. Raises Refused; UnknownStatement where the program is too
         old."""
-        return self._shown_explanation(answers.explanation(self._of_row("prove", row, query)))
+        return self._shown_explanation(answers.explanation(self._of_row("prove", row, query, parameters)))
 
-    def _of_row(self, verb: str, row: Sequence[Cell], query: str) -> List[str]:
+    def _of_row(self, verb: str, row: Sequence[Cell], query: str, parameters: Parameters) -> List[str]:
         """The reply to a statement about a row of a query's answer."""
         columns, tables = selected(query)
         places = [places_of(name, tables, self._marks.places) for name in columns] + [0] * len(row)
         values = [shown_number(Decimal(value).scaleb(-count), count) if count and isinstance(value, int) else quoted(value)
                   for value, count in zip(self._stored(row, query), places)]
-        return self._lines("%s row (%s) for %s;" % (verb, ", ".join(values), _plain(query)))
+        return self._lines("%s row (%s) for %s;" % (verb, ", ".join(values), self._filled(query, parameters)))
 
-    def range(self, aggregate: str) -> Range:
+    def range(self, aggregate: str, parameters: Parameters = ()) -> Range:
         """The ends of `sum credit from customer where ..`, of `count from ..`, `min ..` or `max ..` over all repairs.
-        Raises Refused; UnknownStatement where the program is too old."""
-        told = answers.ranges(self._range_lines(aggregate))
+        Raises Refused; ValueError for one with `group by`, which has many ends; UnknownStatement where the program is too old."""
+        if aggregate_of(aggregate).group:
+            raise ValueError("a range by groups has ends for each of them: `ranges` gives them, and `range` those of a range without `group by`")
+        told = answers.ranges(self._range_lines(aggregate, parameters))
         places = self._aggregated(aggregate)[0]
         ends = _shown_end(told.least, places), _shown_end(told.greatest, places)
         return Range(*ends, self._shown_kept(told.low), self._shown_kept(told.high))
 
-    def ranges(self, aggregate: str) -> List[Group]:
-        """As `range`, for `sum credit from customer group by city`: one for each value. Raises as `range`."""
-        return self._groups(aggregate, self._range_lines(aggregate))
+    def ranges(self, aggregate: str, parameters: Parameters = ()) -> List[Group]:
+        """As `range`, for `sum credit from customer group by city`: one for each value. Raises as `range`; ValueError for one without
+        `group by`."""
+        if not aggregate_of(aggregate).group:
+            raise ValueError("a range without `group by` has one least and one greatest value: `range` gives them")
+        return self._groups(aggregate, self._range_lines(aggregate, parameters))
 
-    def _range_lines(self, aggregate: str) -> List[str]:
-        return self._lines("range %s;" % _plain(aggregate))
+    def _range_lines(self, aggregate: str, parameters: Parameters) -> List[str]:
+        return self._lines(self._filled("range " + _plain(aggregate), parameters) + ";")
 
     def _groups(self, aggregate: str, lines: List[str]) -> List[Group]:
         of_what, of_groups = self._aggregated(aggregate)
@@ -444,27 +456,32 @@ class Session:
         told = answers.ranges(lines)
         return Rows(("least", "greatest"), [(_or_empty(_shown_end(told.least, places)), _or_empty(_shown_end(told.greatest, places)))])
 
-    def classify(self, query: str) -> Classification:
+    def classify(self, query: str, parameters: Parameters = ()) -> Classification:
         """How hard the query is, by its attacks. Raises Refused."""
-        return answers.classification(self._lines("classify %s;" % _plain(query)))
+        return answers.classification(self._lines("classify %s;" % self._filled(query, parameters)))
 
-    def classify_union(self, union: str) -> UnionClassification:
+    def classify_union(self, union: str, parameters: Parameters = ()) -> UnionClassification:
         """How hard each part of a union is, and whether two parts share a table that isn't strict. Raises Refused."""
-        return answers.union_classification(self._lines("classify %s;" % _plain(union)))
+        return answers.union_classification(self._lines("classify %s;" % self._filled(union, parameters)))
 
-    def plan(self, query: str) -> Optional[List[str]]:
+    def plan(self, query: str, parameters: Parameters = ()) -> Optional[List[str]]:
         """The tables in the order in which they can be gone through without a search, or None where there is none. Raises Refused."""
-        lines = self._lines("plan %s;" % _plain(query))
+        lines = self._lines("plan %s;" % self._filled(query, parameters))
         return None if lines == ["no plan"] else [line.split(" ")[2] for line in lines]
 
-    def sql(self, query: str) -> Optional[str]:
+    def sql(self, query: str, parameters: Parameters = ()) -> Optional[str]:
         """One query in SQL for the certain rows of a query or of a union, or None where there is none: a query has no plan, or
         parts share a table that isn't strict. Raises Refused."""
-        lines = self._lines("sql %s;" % _plain(query))
+        lines = self._lines("sql %s;" % self._filled(query, parameters))
         return None if lines[0].startswith("no ") else "".join(line + "\n" for line in lines)
 
-    def _answer(self, verb: str, query: str) -> Rows:
-        return self.rows_of(query, self._lines("%s %s;" % (verb, _plain(query))))
+    def _answer(self, verb: str, query: str, parameters: Parameters) -> Rows:
+        return self.rows_of(query, self._lines("%s %s;" % (verb, self._filled(query, parameters))))
+
+    def _filled(self, statement: str, parameters: Parameters) -> str:
+        """A query, or a statement, with its parameters, and without the `;` that may stand at its end."""
+        plain = _plain(statement)
+        return filled(plain, parameters, lambda column, tables: places_of(column, tables, self._marks.places)) if parameters else plain
 
     def rows_of(self, query: str, lines: Sequence[str]) -> Rows:
         """The rows of a query's reply, with the query's columns."""
@@ -519,15 +536,16 @@ class Session:
 
     # -- change and keep ----------------------------------------------------------------------------------------------------
 
-    def delete(self, table: str, where: str = "") -> int:
+    def delete(self, table: str, where: str = "", parameters: Parameters = ()) -> int:
         """Takes away the rows of a table for which the tests hold, as "id = 1 and source = 'shop'"; all rows without tests.
         Gives their number. Raises Refused."""
-        return int(self._lines("delete from %s%s;" % (table, " where " + _plain(where) if where else ""))[0].split(" ")[1])
+        tests = " where " + _plain(where) if where else ""
+        return int(self._lines(self._filled("delete from " + table + tests, parameters) + ";")[0].split(" ")[1])
 
-    def prefer(self, table: str, where: str) -> int:
+    def prefer(self, table: str, where: str, parameters: Parameters = ()) -> int:
         """Of each block in which a row passes the tests, takes away the rows that don't. Gives the number of rows taken away.
         Raises Refused; UnknownStatement where the program is too old."""
-        return int(self._lines("prefer %s where %s;" % (table, _plain(where)))[0].split(" ")[1])
+        return int(self._lines(self._filled("prefer " + table + " where " + _plain(where), parameters) + ";")[0].split(" ")[1])
 
     def insert(self, table: str, rows: Sequence[Sequence[Cell]]) -> int:
         """Puts rows into a table and gives the number of those that weren't there. Numbers of a column with places, int or

@@ -365,6 +365,27 @@ class Wrapper(ProgramCase):
 
 
 class Packages(Case):
+    def test_an_installed_package_finds_the_program_of_its_repository(self) -> None:
+        sys.path.insert(0, os.path.join(TOP, "python", "build_backend"))
+        import wheel_builder
+        sys.path.pop(0)
+        repository = os.path.join(self.folder, "repo")
+        with mock.patch.object(wheel_builder, "HERE", os.path.join(TOP, "python")):
+            with zipfile.ZipFile(self.path(wheel_builder.build_wheel(self.folder))) as wheel:
+                self.assertEqual(wheel.read("cqa/repository.txt").decode(), TOP)
+                wheel.extractall(self.path("site"))
+        self.file("site/cqa/repository.txt", repository)
+        program = os.path.join(repository, "crates", "cqa_cli", "out", "cqa_cli")
+        os.makedirs(os.path.dirname(program))
+        environment = {name: value for name, value in os.environ.items() if name not in ("CQA_PROGRAM", "PYTHONPATH")}
+        script = "from cqa.program import found_program; print(found_program())"
+        for is_there in (False, True):
+            if is_there:
+                self.file(program, "#!/bin/sh\n")
+                os.chmod(program, 0o700)
+            ran = subprocess.run([sys.executable, "-c", script], cwd=self.path("site"), env=dict(environment, PATH=""), stdout=subprocess.PIPE, stderr=subprocess.PIPE, timeout=60, check=False)
+            self.assertEqual((ran.returncode == 0, ran.stdout.decode()), (is_there, program + "\n" if is_there else ""))
+
     def test_an_editable_wheel_leads_to_the_sources(self) -> None:
         sys.path.insert(0, os.path.join(TOP, "python", "build_backend"))
         import wheel_builder
