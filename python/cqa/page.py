@@ -11,13 +11,13 @@ from .unseen import seen
 
 _LONG_WORD = re.compile(r"\S{25}")
 _MOST_SHOWN = 15
-_MOST_HELD = 500
+_MOST_HELD = 485
 
 STYLE = """
 :root { color-scheme: light dark; --paper: #ffffff; --panel: #f5f6f8; --ink: #1b1f24; --quiet: #57606a; --line: #d5d9de; --bar: #2f6fb3;
-  --track: #e4e8ed; --odd: #a3430f; }
+  --track: #e4e8ed; --odd: #a3430f; --mark: #ffe9a8; }
 @media (prefers-color-scheme: dark) { :root { --paper: #14171a; --panel: #1d2126; --ink: #e7e9ec; --quiet: #a3abb5; --line: #363c44;
-  --bar: #6ba7e2; --track: #2b3138; --odd: #f0a36b; } }
+  --bar: #6ba7e2; --track: #2b3138; --odd: #f0a36b; --mark: #5c4a12; } }
 * { box-sizing: border-box; }
 body { margin: 0 auto; padding: 1rem; max-width: 72rem; background: var(--paper); color: var(--ink); font: 1rem/1.5 system-ui, sans-serif; }
 h1 { font-size: 1.6rem; line-height: 1.2; margin: .5rem 0; overflow-wrap: anywhere; }
@@ -56,6 +56,10 @@ svg.graph .weak { fill: none; stroke: var(--quiet); stroke-width: 1.5; stroke-da
 svg.graph .strong { fill: none; stroke: var(--odd); stroke-width: 3; }
 svg.graph .weak-head { fill: var(--quiet); }
 svg.graph .strong-head { fill: var(--odd); }
+mark { background: var(--mark); color: inherit; padding: 0 .15em; border-radius: .2em; }
+a { color: var(--bar); }
+ol.contents { margin: .5rem 0 1.5rem; padding-left: 1.6rem; max-width: none; }
+ol.contents li { margin: .2rem 0; overflow-wrap: anywhere; }
 details summary { cursor: pointer; color: var(--quiet); margin: .4rem 0; }
 """
 
@@ -78,17 +82,20 @@ def table(columns: Sequence[str], rows: Sequence[Sequence[Cell]]) -> str:
     """A table of values: the first rows are seen, and more of them can be."""
     if not rows:
         return '<p class="quiet">none</p>'
-    parts = [_table(columns, rows[:_MOST_SHOWN])]
-    if len(rows) > _MOST_SHOWN:
-        more = _table(columns, rows[_MOST_SHOWN:_MOST_HELD])
-        parts.append("<details><summary>%s more</summary>%s</details>" % (number(len(rows) - _MOST_SHOWN), more))
-    if len(rows) > _MOST_HELD:
-        parts.append('<p class="quiet">%s of %s are on this page</p>' % (number(_MOST_HELD), number(len(rows))))
-    return "".join(parts)
+    return _table(columns, rows[:_MOST_SHOWN]) + more(columns, rows[_MOST_SHOWN:])
+
+
+def more(columns: Sequence[str], rows: Sequence[Sequence[Cell]]) -> str:
+    """Further rows behind a line that opens them, and how many are on no page."""
+    if not rows:
+        return ""
+    held = rows[:_MOST_HELD]
+    rest = "" if len(rows) == len(held) else '<p class="quiet">%s further rows aren\'t on this page; <code>cqa csv</code> writes all.</p>' % number(len(rows) - len(held))
+    return "<details><summary>%s more</summary>%s</details>%s" % (number(len(held)), _table(columns, held), rest)
 
 
 def _table(columns: Sequence[str], rows: Iterable[Sequence[Cell]]) -> str:
-    return raw_table(columns, ([_cell(value) for value in row] for row in rows))
+    return raw_table(columns, ([cell(value) for value in row] for row in rows))
 
 
 def raw_table(columns: Sequence[str], rows: Iterable[Sequence[str]]) -> str:
@@ -98,8 +105,16 @@ def raw_table(columns: Sequence[str], rows: Iterable[Sequence[str]]) -> str:
     return '<div class="wide"><table><thead><tr>%s</tr></thead><tbody>%s</tbody></table></div>' % (head, body)
 
 
-def _cell(value: Cell) -> str:
-    return '<td%s>%s</td>' % ("" if isinstance(value, str) else ' class="number"', text(value))
+def cell(value: Cell, is_marked: bool = False) -> str:
+    """A cell of a table, with a mark where it is told."""
+    shown = "<mark>%s</mark>" % text(value) if is_marked else text(value)
+    return '<td%s>%s</td>' % ("" if isinstance(value, str) else ' class="number"', shown)
+
+
+def contents(items: Sequence["tuple[str, str, str]"]) -> str:
+    """A list of links: where each leads, its words, and what stands behind it."""
+    return '<ol class="contents">%s</ol>' % "".join('<li><a href="#%s">%s</a> <span class="quiet">%s</span></li>' % (html.escape(to), text(words), text(said) if said else "")
+                                                  for to, words, said in items)
 
 
 def facts(pairs: Sequence["tuple[str, int]"]) -> str:

@@ -3,32 +3,41 @@
 from __future__ import annotations
 
 import argparse
+import datetime
 import html
 import os
 import re
 import sys
 import warnings
-from decimal import Decimal
-from typing import Dict, List, NamedTuple, Optional, Sequence
+from typing import Dict, List, NamedTuple, Optional, Sequence, Tuple
 
 from . import page
 from .answers import Classification, Explanation, Range, against, explanation
 from .conflicts import Conflicts, Disputed
 from .drawing import HEADS, attack_graph
-from .errors import Refused, ScaleWarning
+from .errors import Refused, ScaleFault, ScaleWarning
 from .files import check_output, standard_output, written
+from .origins import Origin
 from .rows import Cell, Rows
 from .running import QUERY_VERBS, Answer, loaded
 from .scripts import Schema, aggregate_of, parts_of, quoted, selected, tokens, without_comments
 from .session import Session
+from .version import version
+from .why import Rows as Shown
+from .why import literals_of
 from .words import told as words_told
 
 #: Statements that change no table and no setting.
 _QUIET = (*QUERY_VERBS, "show", "dump", "")
 _EXPLAINS = re.compile(r"\s*(?:explain|against|prove)\s+row\s*(\((?:[^')]|'[^']*')*\))\s*for\b(.*)", re.S)
 _WORST = 20
-_MOST_KEPT = 20
 
+_SURE = "The answer is exact: each row was decided, and none was guessed. "
+_HOW = {
+    "first-order": _SURE + "It was found by going through the tables once, and stays quick on longer lists.",
+    "polynomial": _SURE + "It was found by following how rows lead to each other, which takes longer on longer lists, but not out of hand.",
+    "conp-complete": _SURE + "Such a question may take a search for each row: on much longer lists it may take long, and is then refused and not guessed.",
+}
 _CLASSES = {
     "first-order": "The tables can be gone through one after the other, and each row is decided without a search.",
     "polynomial": "Tables attack each other weakly: no order of the tables decides it, but each row is decided in polynomial time.",
@@ -37,13 +46,22 @@ _CLASSES = {
 
 
 class Question(NamedTuple):
-    """A query of the scripts, a row of which they ask why, if they do, and where it is asked first. is_range: whether it is what stands
-    behind `range`."""
+    """A query of the scripts, a row of which they ask why, if they do, where it is asked first, and by which statements. is_range:
+    whether it is what stands behind `range`."""
 
     query: str
     row: Optional[str]
     place: str
+    verbs: Tuple[str, ...]
     is_range: bool = False
+
+
+class Answered(NamedTuple):
+    """A question with its part of the page. words: it, in a line. said: its answer, in a line."""
+
+    words: str
+    said: str
+    part: str
 
 
 def questions_of(answers: Sequence[Answer]) -> List[Question]:
@@ -57,12 +75,13 @@ def questions_of(answers: Sequence[Answer]) -> List[Question]:
         query = explained[2] if explained else re.sub(r"^\s*\w+\s", "", text)
         name = " ".join(tokens(query))
         if answer.verb == "range":
-            found.setdefault("range " + name, Question(query.strip(), None, "%s:%d" % (os.path.basename(answer.path), answer.line), True))
+            found.setdefault("range " + name, Question(query.strip(), None, "%s:%d" % (os.path.basename(answer.path), answer.line), ("range",), True))
             continue
         row = explained[1] if explained else None
         known = found.get(name)
         place = "%s:%d" % (os.path.basename(answer.path), answer.line)
-        found[name] = known._replace(row=known.row or row) if known else Question(query.strip(), row, place)
+        verbs = (*known.verbs, answer.verb) if known else (answer.verb,)
+        found[name] = known._replace(row=known.row or row, verbs=tuple(dict.fromkeys(verbs))) if known else Question(query.strip(), row, place, verbs)
     return list(found.values())
 
 
@@ -71,7 +90,7 @@ class Questions:
 
     def __init__(self) -> None:
         self.answers: List[Answer] = []
-        self.parts: List[str] = []
+        self.parts: List[Answered] = []
         self._answered = 0
 
     def before(self, session: Session, verb: str) -> None:
@@ -92,6 +111,7 @@ def main(arguments: Sequence[str]) -> int:
                                     "question its certain and its disputed rows. Where a statement is refused, nothing is written.")
     words.add_argument("files", nargs="+", metavar="FILE")
     words.add_argument("--source", metavar="COLUMN", help="the column of sources, which is no conflict: else that which load made, if it did")
+    words.add_argument("--title", metavar="TEXT", help="the page's title, in place of the files' names")
     words.add_argument("-o", "--output", metavar="FILE", help="the page's file, in place of standard output")
     told = words_told(words, arguments)
     with warnings.catch_warnings():
@@ -114,39 +134,71 @@ def _main(told: argparse.Namespace) -> int:
             print("cqa report: no table has a column %s; nothing is written" % told.source, file=sys.stderr)
             return 1
         questions.answer(session)
-        text = report(session, questions.parts, ", ".join(os.path.basename(path) for path in told.files), told.source)
+        text = report(session, questions.parts, [os.path.basename(path) for path in told.files], told.title, told.source)
     with written(told.output) if told.output else standard_output() as out:
         out.write(text.encode("utf-8", "replace"))
     return 0
 
 
-def report(session: Session, questions: Sequence[str], title: str, source: Optional[str] = None) -> str:
-    """The page of a session's tables, with the parts of questions."""
+def report(session: Session, questions: Sequence[Answered], files: Sequence[str], title: Optional[str] = None, source: Optional[str] = None) -> str:
+    """The page of a session's tables, with the parts of questions. files: the names of the scripts."""
     schemas = session.tables()
-    found = {schema.table: session.conflicts(schema.table, source if source in schema.columns else None) for schema in schemas}
-    whole = [("tables", len(schemas)), ("rows", sum(one.rows for one in found.values())), ("keys", sum(one.keys for one in found.values())),
-             ("keys in conflict", sum(len(one) for one in found.values())), ("questions", len(questions))]
-    body = [HEADS, "<h1>%s</h1>" % page.text(title), page.facts(whole),
+    found = {schema.table: session.conflicts_of([schema.table], source if source in schema.columns else None)[0] for schema in schemas if source}
+    found = found or dict(zip([schema.table for schema in schemas], session.conflicts_of([schema.table for schema in schemas])))
+    whole = [("questions", len(questions)), ("tables", len(schemas)), ("rows", sum(one.rows for one in found.values())),
+             ("keys", sum(one.keys for one in found.values())), ("keys in conflict", sum(len(one) for one in found.values()))]
+    heading = title or ", ".join(files)
+    made = "Made on %s%s from %s." % (datetime.datetime.now().astimezone().strftime("%Y-%m-%d at %H:%M (UTC%z)"), (" by cqa " + version()).rstrip(), ", ".join(files))
+    body = [HEADS, "<h1>%s</h1>" % page.text(heading), '<p class="quiet">%s</p>' % html.escape(made), page.facts(whole),
             "<p><b>Certain means undisputed, not confirmed:</b> of the stored rows of each key one is taken to be right. A row is "
             "certain if it is an answer whichever these are, and disputed if it is one only for some choices. Tables and conflicts are "
-            "as the scripts leave them; each question is answered where it stands.</p>"]
+            "as the scripts leave them; each question is answered where it stands.</p>",
+            page.contents([("q%d" % number, one.words, one.said) for number, one in enumerate(questions, 1)]
+                          + [("lists", "The lists", "which files, how many records, and keys of one list alone")]
+                          + [("t-" + schema.table, "Table " + schema.table, _conflicts_said(found[schema.table])) for schema in schemas])]
+    body += [one.part for one in questions]
+    body.append(_lists_part(session, found))
     body += [_table_part(schema, found[schema.table]) for schema in schemas]
-    body += questions
-    return page.page("cqa: " + title, "\n".join(body))
+    return page.page("cqa: " + heading, "\n".join(body))
+
+
+def _conflicts_said(found: Conflicts) -> str:
+    return "%s of %s keys in conflict" % (page.number(len(found)), page.number(found.keys))
+
+
+def _lists_part(session: Session, found: Dict[str, Conflicts]) -> str:
+    """The lists from which the rows come: their files, how many records each gave, and how many keys stand in it alone."""
+    rows: List[Tuple[Cell, ...]] = []
+    for table, conflicts in found.items():
+        origins = session.origins_of(table)
+        names = list(dict.fromkeys([*(one.source for one in origins if one.source is not None), *map(str, conflicts.by_source)]))
+        rows += [_list_row(table, name, [one for one in origins if one.source == name], conflicts) for name in names]
+        rows += [(table, "", one.path, one.records, "", "") for one in origins if one.source is None]
+        shared = conflicts.keys - sum(alone for _, alone in conflicts.by_source.values())
+        if conflicts.by_source:
+            rows.append((table, "in several lists", "", "", "", shared))
+    if not rows:
+        return '<h2 id="lists">The lists</h2><p class="quiet">The scripts don\'t say from which lists the rows come.</p>'
+    return '<h2 id="lists">The lists</h2>' + page.table(("table", "list", "file", "records read", "rows here", "keys in it alone"), rows)
+
+
+def _list_row(table: str, name: str, origins: Sequence[Origin], conflicts: Conflicts) -> Tuple[Cell, ...]:
+    here, alone = conflicts.by_source.get(name, (0, 0))
+    return table, name, ", ".join(one.path for one in origins), sum(one.records for one in origins) if origins else "", here, alone
 
 
 def _table_part(schema: Schema, conflicts: Conflicts) -> str:
     """A table: its counts, in how many keys each column differs, and the worst keys."""
     columns = ", ".join("%s %s" % item for item in schema.columns.items())
     kind = ", strict" if schema.strict else ""
-    parts = ["<h2>Table %s</h2>" % page.text(schema.table),
+    parts = ['<h2 id="t-%s">Table %s</h2>' % (html.escape(schema.table), page.text(schema.table)),
              '<p class="quiet"><code>%s</code>, key <code>%s</code>%s</p>' % (html.escape(columns), html.escape(", ".join(schema.key)), kind),
              page.facts([("rows", conflicts.rows), ("keys", conflicts.keys), ("keys in conflict", len(conflicts))])]
     if not conflicts.disputed:
         return "".join(parts) + '<p class="quiet">No key of this table is in conflict.</p>'
     parts.append("<h3>Keys that disagree, by column</h3>")
     parts.append(page.bars([item for item in sorted(conflicts.by_column.items(), key=lambda item: -item[1])], conflicts.keys))
-    worst = sorted(conflicts.disputed, key=lambda block: (-len(block.values), -len(block.rows)))[:_WORST]
+    worst = conflicts.worst(_WORST)
     is_all = len(worst) == len(conflicts)
     parts.append("<h3>The keys in conflict</h3>" if is_all else "<h3>The %d keys that disagree most</h3>" % len(worst))
     parts.append(page.raw_table((*conflicts.key, "column", "values"), (cells for block in worst for cells in _block_cells(block))))
@@ -169,36 +221,49 @@ def _sources_part(sources: Sequence[Cell]) -> str:
     return ' <span class="quiet">%s</span>' % ", ".join(map(page.text, sources)) if sources else ""
 
 
-def _question_part(session: Session, number: int, question: Question) -> str:
-    """A question: its certain and its disputed rows, its class and attacks, and why a row isn't certain; or the ends of a range."""
-    head = '<h2>Question %d <span class="quiet">%s</span></h2><pre>%s</pre>' % (number, page.text(question.place), page.text(question.query))
-    if question.is_range:
-        return head + _range_part(session, question.query)
+def _question_part(session: Session, number: int, question: Question) -> Answered:
+    """A question: its certain and its disputed rows, how they were found, and why a row isn't certain; or the ends of a range."""
+    verb, others = question.verbs[0], question.verbs[1:]
+    asked = verb if verb in ("ask", "possible", "disputed", "range") else "ask"
+    words = "%s %s" % (asked, " ".join(without_comments(question.query).split()))
+    also = '<p class="quiet">Also asked by %s.</p>' % ", ".join("<code>%s</code>" % html.escape(one) for one in (*((verb,) if verb != asked else ()), *others))
+    head = '<h2 id="q%d">Question %d <span class="quiet">%s</span></h2><pre>%s %s;</pre>%s' % (
+        number, number, page.text(question.place), asked, page.text(question.query), also if others or verb != asked else "")
     try:
-        certain, possible = session.certain(question.query), session.possible(question.query)
-        classified = session.classify(question.query) if len(parts_of(question.query)) == 1 else None
-    except Refused as refused:
-        return head + '<p class="odd">%s</p>' % page.text(refused.line)
+        said, part = _range_part(session, question.query) if question.is_range else _rows_part(session, question)
+    except (Refused, ScaleFault) as refused:
+        text = refused.line if isinstance(refused, Refused) else str(refused)
+        return Answered(words, "refused", head + '<p class="odd">%s</p>' % page.text(text))
+    return Answered(words, said, head + part)
+
+
+def _rows_part(session: Session, question: Question) -> Tuple[str, str]:
+    """The answer of a query in a line, and its part of the page."""
+    certain, possible = session.certain(question.query), session.possible(question.query)
     known = set(certain)
     disputed = Rows(possible.columns, (row for row in possible if row not in known))
-    told = _class_part(question.query, classified) if classified else "<p>A union: each row is decided by a formula of its own.</p>"
-    return "".join([head, _answer_part(certain, disputed), told, _why_part(session, question, disputed)])
+    if certain.columns:
+        said = "%s certain, %s disputed" % (page.number(len(certain)), page.number(len(disputed)))
+    else:
+        said = "disputed" if disputed else "yes" if certain else "no"
+    is_union = len(parts_of(question.query)) > 1
+    how = _union_part() if is_union else _class_part(question.query, session.classify(question.query))
+    return said, _answer_part(certain, disputed) + _why_part(session, question, disputed) + how
 
 
-def _range_part(session: Session, aggregate: str) -> str:
-    """The ends of a range, and the rows of which one end takes another than the other end."""
-    if aggregate_of(aggregate).group:
+def _range_part(session: Session, aggregate: str) -> Tuple[str, str]:
+    """The ends of a range in a line, and its part of the page: the rows of which one end takes another than the other end."""
+    group = aggregate_of(aggregate).group
+    if group:
         groups = session.ranges(aggregate)
-        return page.table((aggregate_of(aggregate).group, "least", "greatest"), [tuple(map(_end_shown, group)) for group in groups])
+        return "%s groups" % page.number(len(groups)), page.table((group, "least", "greatest"), [tuple(map(_end_shown, one)) for one in groups])
     found: Range = session.range(aggregate)
-    ends = "<p>It lies between <b>%s</b> and <b>%s</b>, whichever rows are right.</p>" % (
-        page.text(_end_shown(found.least)), page.text(_end_shown(found.greatest)))
-    pairs = [(low[0], _row_shown(low[1]), _row_shown(high[1])) for low, high in zip(found.low, found.high) if low != high]
-    if found.least == found.greatest or not pairs:
-        return ends
-    more = '<p class="quiet">and %s more</p>' % page.number(len(pairs) - _MOST_KEPT) if len(pairs) > _MOST_KEPT else ""
-    return ends + "<p>It has these values where these rows are the right ones of their keys:</p>" + page.table(
-        ("table", "the least", "the greatest"), pairs[:_MOST_KEPT]) + more
+    least, greatest = _end_shown(found.least), _end_shown(found.greatest)
+    ends = "<p>It lies between <b>%s</b> and <b>%s</b>, whichever rows are right.</p>" % (page.text(least), page.text(greatest))
+    said = "between %s and %s" % (least, greatest)
+    if found.least == found.greatest or found.low == found.high:
+        return said, ends
+    return said, ends + "<p>It has these values where these rows are the right ones of their keys:</p>" + Shown(session).ends_part(found)
 
 
 def _end_shown(end: Optional[Cell]) -> Cell:
@@ -214,23 +279,30 @@ def _answer_part(certain: Rows, disputed: Rows) -> str:
 
 
 def _class_part(query: str, classified: Classification) -> str:
+    """How the answer was found, and behind a line for those who know the theory, the class of the query and how its tables attack."""
     tables = selected(query)[1]
-    parts = ["<h3>Class: %s</h3><p>%s</p>" % (html.escape(classified.name), _CLASSES.get(classified.name, ""))]
+    parts = ["<p>%s</p><details><summary>The theory of it</summary><p>Class: %s. %s</p>"
+             % (_HOW.get(classified.name, _SURE), html.escape(classified.name), _CLASSES.get(classified.name, ""))]
     if len(tables) > 1:
         parts.append(attack_graph(tables, classified.attacks))
         parts.append('<p class="quiet">A broken thin line is a weak attack, a thick line a strong one.</p>' if classified.attacks else
                      '<p class="quiet">No table attacks another.</p>')
-    return "".join(parts)
+    return "<h3>How it was found</h3>%s</details>" % "".join(parts)
+
+
+def _union_part() -> str:
+    return "<h3>How it was found</h3><p>%sA row is certain if each choice of rows gives it by some part of the question, not always by the same one.</p>" % _SURE
 
 
 def _why_part(session: Session, question: Question, disputed: Rows) -> str:
     """Why a row isn't certain: the one that the script asks of, or the first that is disputed."""
-    literal = question.row or ("(%s)" % ", ".join(_literals(session, question.query, disputed[0])) if disputed else None)
-    if literal is None:
+    literals = literals_of(question.row) if question.row else _literals(session, question.query, disputed[0]) if disputed else None
+    if literals is None:
         return ""
     shown = question.row or _row_shown(disputed[0])
-    head = "<h3>Why %s isn't certain</h3>" % ("the yes" if literal == "()" else "<code>%s</code>" % page.text(shown))
-    words = "row %s for %s;" % (literal, question.query)
+    row = "(%s)" % ", ".join(literals)
+    head = "<h3>Why %s isn't certain</h3>" % ("the yes" if not literals else "<code>%s</code>" % page.text(shown))
+    words = "row %s for %s;" % (row, question.query.strip().rstrip(";"))
     is_union = len(parts_of(question.query)) > 1
     try:
         told = explanation(session._lines("explain " + words)) if is_union else against(session._lines("against " + words))
@@ -239,15 +311,18 @@ def _why_part(session: Session, question: Question, disputed: Rows) -> str:
             return "<h3><code>%s</code> is certain</h3>%s" % (page.text(shown), _by_block(why))
     except Refused as refused:
         return head + '<p class="odd">%s</p>' % page.text(refused.line)
-    if not told.kept:
+    rows = Shown(session)
+    kept = session._shown_kept(told.kept)
+    relevant = rows.relevant(question.query, literals) if is_union else None
+    if relevant is not None:
+        kept = tuple(one for one in kept if rows.block(*one) in relevant)
+    if not kept:
         return head + "<p>No choice of rows gives it: it isn't even possible.</p>"
-    rows = [(table, _row_shown(row)) for table, row in session._shown_kept(told.kept[:_MOST_KEPT])]
-    more = "<p class=\"quiet\">and %s more</p>" % page.number(len(told.kept) - _MOST_KEPT) if len(told.kept) > _MOST_KEPT else ""
-    return head + "<p>It is no answer where these rows are the right ones of their keys:</p>" + page.table(("table", "row"), rows) + more
+    return head + "<p>It is no answer where these rows are the right ones of their keys; what others of their keys say otherwise is marked:</p>" + rows.kept_part(kept)
 
 
 def _row_shown(row: Sequence[Cell]) -> str:
-    return "(%s)" % ", ".join(str(value) if isinstance(value, Decimal) else quoted(value) for value in row)
+    return "(%s)" % ", ".join(quoted(value) if isinstance(value, (int, str)) else str(value) for value in row)
 
 
 def _by_block(told: Explanation) -> str:

@@ -365,6 +365,14 @@ class Session:
             found[table].add(columns.in_order(row_of(line)) for line in rows)
         return [found[table] for table in tables]
 
+    def source_of(self, table: str) -> Optional[str]:
+        """The column with which a table was loaded that says from which list a row is, if there is one."""
+        return self._marks.sources.get(table)
+
+    def origins_of(self, table: str) -> List[Origin]:
+        """The lists from which a table was loaded, as far as scripts say so."""
+        return list(self._origins.get(table, []))
+
     def _columns(self, schema: Schema, source: Optional[str]) -> Columns:
         """How the rows of a table are read. Raises NoSuchName where it has no such column of sources."""
         if source is not None and source not in schema.columns:
