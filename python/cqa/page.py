@@ -58,8 +58,8 @@ svg.graph .weak-head { fill: var(--quiet); }
 svg.graph .strong-head { fill: var(--odd); }
 mark { background: var(--mark); color: inherit; padding: 0 .15em; border-radius: .2em; }
 a { color: var(--bar); }
-ol.contents { margin: .5rem 0 1.5rem; padding-left: 1.6rem; max-width: none; }
-ol.contents li { margin: .2rem 0; overflow-wrap: anywhere; }
+.contents { margin: .5rem 0; padding-left: 1.6rem; }
+.contents li { margin: .2rem 0; overflow-wrap: anywhere; }
 details summary { cursor: pointer; color: var(--quiet); margin: .4rem 0; }
 """
 
@@ -111,10 +111,12 @@ def cell(value: Cell, is_marked: bool = False) -> str:
     return '<td%s>%s</td>' % ("" if isinstance(value, str) else ' class="number"', shown)
 
 
-def contents(items: Sequence["tuple[str, str, str]"]) -> str:
+def contents(items: Sequence["tuple[str, str, str]"], are_numbered: bool) -> str:
     """A list of links: where each leads, its words, and what stands behind it."""
-    return '<ol class="contents">%s</ol>' % "".join('<li><a href="#%s">%s</a> <span class="quiet">%s</span></li>' % (html.escape(to), text(words), text(said) if said else "")
-                                                  for to, words, said in items)
+    tag = "ol" if are_numbered else "ul"
+    return '<%s class="contents">%s</%s>' % (tag, "".join(
+        '<li><a href="#%s">%s</a> <span class="quiet">%s</span></li>' % (html.escape(to), text(words), text(said) if said else "")
+        for to, words, said in items), tag)
 
 
 def facts(pairs: Sequence["tuple[str, int]"]) -> str:

@@ -153,9 +153,9 @@ def report(session: Session, questions: Sequence[Answered], files: Sequence[str]
             "<p><b>Certain means undisputed, not confirmed:</b> of the stored rows of each key one is taken to be right. A row is "
             "certain if it is an answer whichever these are, and disputed if it is one only for some choices. Tables and conflicts are "
             "as the scripts leave them; each question is answered where it stands.</p>",
-            page.contents([("q%d" % number, one.words, one.said) for number, one in enumerate(questions, 1)]
-                          + [("lists", "The lists", "which files, how many records, and keys of one list alone")]
-                          + [("t-" + schema.table, "Table " + schema.table, _conflicts_said(found[schema.table])) for schema in schemas])]
+            page.contents([("q%d" % number, one.words, one.said) for number, one in enumerate(questions, 1)], True) if questions else "",
+            page.contents([("lists", "The lists", "which files, how many records, and keys of one list alone"),
+                           *(("t-" + schema.table, "Table " + schema.table, _conflicts_said(found[schema.table])) for schema in schemas)], False)]
     body += [one.part for one in questions]
     body.append(_lists_part(session, found))
     body += [_table_part(schema, found[schema.table]) for schema in schemas]

@@ -67,7 +67,8 @@ class Rows:
         pairs = [(low, high) for low, high in zip(found.low, found.high) if low != high]
         by_table: Dict[str, List[Tuple[str, Sequence[Cell], Set[int]]]] = {}
         for (table, low), (_, high) in pairs[:_MOST_KEPT]:
-            marked = {at for at, (one, other) in enumerate(zip(low, high)) if one != other}
+            source = self._session.source_of(table)
+            marked = {at for at, name in enumerate(self._schemas[table].columns) if low[at] != high[at] and name != source}
             by_table.setdefault(table, []).extend([("the least", low, marked), ("the greatest", high, marked)])
         return "".join(self._table(table, rows, "for") for table, rows in by_table.items()) + _more([low for low, _ in pairs[_MOST_KEPT:]])
 

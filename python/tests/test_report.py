@@ -3,6 +3,7 @@
 from __future__ import annotations
 
 import os
+import re
 import unittest
 from html.parser import HTMLParser
 from typing import List, Tuple
@@ -11,7 +12,7 @@ from support import ProgramCase, lines
 
 VOID = {"meta", "br", "img", "link", "input"}
 ALLOWED = {"html", "head", "meta", "title", "style", "body", "h1", "h2", "h3", "p", "b", "ul", "li", "div", "span", "bdi", "table", "thead", "tbody", "tr", "th",
-           "td", "code", "pre", "details", "summary", "svg", "defs", "marker", "path", "rect", "g", "text"}
+           "td", "code", "pre", "a", "ol", "mark", "details", "summary", "svg", "defs", "marker", "path", "rect", "g", "text"}
 SCRIPT = """-- cqa: column customer.source has the sources
 create table customer (id int, name text, city text, source text, primary key (id));
 create table branch (city text, region text, primary key (city));
@@ -58,8 +59,9 @@ class Pages(ProgramCase):
         self.assertLessEqual({tag for tag, _ in read.tags}, ALLOWED)
         for tag, attributes in read.tags:
             for name, value in attributes.items():
-                self.assertFalse(name.startswith("on") or name in ("src", "href"), (tag, name, value))
+                self.assertFalse(name.startswith("on") or name == "src" or name == "href" and not value.startswith("#"), (tag, name, value))
         identities = [attributes["id"] for _, attributes in read.tags if "id" in attributes]
+        self.assertLessEqual({attributes["href"][1:] for tag, attributes in read.tags if tag == "a"}, set(identities))
         self.assertEqual(len(identities), len(set(identities)))
         return read
 
@@ -69,8 +71,8 @@ class Pages(ProgramCase):
                          "ask exists from customer where city <> 'Hamar';\nexplain row (1) for select id from customer where city = 'Oslo';\n"
                          "explain row (3) for select id from customer where name = 'Cy';\n")
         words = " ".join(read.text.split())
-        for wanted in ("8 rows", "6 keys", "1 key in conflict", "2 keys in conflict", "4 questions", "Bergen shop Oslo crm", "Certain rows: 1", "Disputed rows: 2", "Class: first-order",
-                       "Why (1, 'Ada') isn't certain", "customer (1, 'Ada', 'Bergen', 'shop')", "Yes, whichever rows are right.", "Why (1) isn't certain",
+        for wanted in ("8 rows", "6 keys", "1 key in conflict", "2 keys in conflict", "4 questions", "Bergen Oslo", "Certain rows: 1", "Disputed rows: 2", "Class: first-order.",
+                       "Why (1, 'Ada') isn't certain", "In the table customer : id name city source 1 Ada Bergen shop", "Yes, whichever rows are right.", "Why (1) isn't certain",
                        "(3) is certain", "By the rows of customer with the key 3"):
             self.assertIn(wanted, words)
         graphs = [attributes["aria-label"] for tag, attributes in read.tags if tag == "svg" and "aria-label" in attributes]
@@ -82,7 +84,7 @@ class Pages(ProgramCase):
                          "possible select city from c;\ndelete from c where city = 'Oslo';\nask select city from c;\n")
         words = " ".join(read.text.split())
         first, second = words.split("Question 2 s.cqa:6")
-        self.assertIn("Question 1 s.cqa:3 select city from c Certain rows: 0", first)
+        self.assertIn("Question 1 s.cqa:3 ask select city from c; Also asked by possible . Certain rows: 0", first)
         self.assertIn("Disputed rows: 2", first)
         self.assertIn("Certain rows: 1 city Bergen Disputed rows: 0", second)
 
@@ -101,24 +103,24 @@ class Pages(ProgramCase):
         read = self.page(SCRIPT + "ask select id from customer where city = 'Oslo' union select id from customer where city = 'Hamar';\n"
                          "explain row (1) for select id from customer where city = 'Oslo' union select id from customer where city = 'Bergen';\n")
         words = " ".join(read.text.split())
-        for wanted in ("2 questions", "Certain rows: 2 id 2 3 Disputed rows: 1 id 1", "A union: each row is decided by a formula of its own.",
-                       "Why (1) isn't certain", "customer (1, 'Ada', 'Bergen', 'shop')", "(1) is certain A refutation shows it."):
+        for wanted in ("2 questions", "Certain rows: 2 id 2 3 Disputed rows: 1 id 1", "by some part of the question, not always by the same one.",
+                       "Why (1) isn't certain", "1 Ada Bergen shop", "(1) is certain A refutation shows it."):
             self.assertIn(wanted, words)
 
     def test_ranges(self) -> None:
         read = self.page("-- cqa: column c.credit has 2 places\ncreate table c (id int, credit int, primary key (id));\ncopy c;\n1,90000\n1,12050\n2,100\n2,100\n\\.\n"
                          "range sum credit from c;\nrange sum credit from c;\nrange max credit from c where credit < 0;\nask select id from c;\n")
         words = " ".join(read.text.split())
-        for wanted in ("3 questions", "Question 1 s.cqa:9 sum credit from c It lies between 121.50 and 901.00 , whichever rows are right.",
-                       "table the least the greatest c (1, 120.50) (1, 900.00) Question 2 s.cqa:11", "between none and none", "Question 3 s.cqa:12"):
+        for wanted in ("3 questions", "Question 1 s.cqa:9 range sum credit from c; It lies between 121.50 and 901.00 , whichever rows are right.",
+                       "In the table c : for id credit the least 1 120.50 the greatest 1 900.00 Question 2 s.cqa:11", "between none and none", "Question 3 s.cqa:12"):
             self.assertIn(wanted, words)
 
     def test_ranges_by_groups(self) -> None:
         read = self.page("-- cqa: column c.credit has 2 places\ncreate table c (id int, credit int, primary key (id));\ncopy c;\n1,90000\n1,12050\n2,100\n2,100\n\\.\n"
                          "range max credit from c where credit > 0 group by id;\nrange count from c group by credit;\n")
         words = " ".join(read.text.split())
-        for wanted in ("2 questions", "max credit from c where credit > 0 group by id id least greatest 1 120.50 900.00 2 1.00 1.00",
-                       "count from c group by credit credit least greatest 1.00 1 1 120.50 0 1 900.00 0 1"):
+        for wanted in ("2 questions", "range max credit from c where credit > 0 group by id; id least greatest 1 120.50 900.00 2 1.00 1.00",
+                       "range count from c group by credit; credit least greatest 1.00 1 1 120.50 0 1 900.00 0 1"):
             self.assertIn(wanted, words)
 
     def test_nothing_is_cut_on_a_narrow_page(self) -> None:
@@ -153,8 +155,50 @@ class Pages(ProgramCase):
         self.assertEqual(self.command("report", "s.cqa"), (1, "", "cqa report: s.cqa makes no table; nothing is written\n"))
         rows = ", ".join("(%d, 'x', 'y', 'z')" % at for at in range(1000))
         read = self.page(SCRIPT.split("insert")[0] + "insert into customer values %s;\nask select id from customer;\n" % rows)
-        self.assertIn("985 more", read.text)
-        self.assertIn("500 of 1,000 are on this page", read.text)
+        self.assertIn("485 more", read.text)
+        self.assertIn("500 further rows aren't on this page", read.text)
+        self.assertEqual([tag for tag, _ in read.tags].count("tr"), 1 + 15 + 1 + 485)
+
+    def load(self) -> None:
+        """Two lists as a script, load.cqa."""
+        self.file("crm.csv", "id,name,city,credit\n1,Ada,Oslo,9.00\n2,Bo,Bergen,5\n3,Cy,Bonn,1\n4,Dag,Voss,1\n")
+        self.file("shop.csv", "id,name,city,credit\n1,Ada,Bergen,9.50\n2,Bo,Bergen,5\n5,Eli,K\u00f6ln,2\n3,Cy,K\u00f6ln,1\n")
+        words = ["--table", "customer", "--key", "id", "--decimal", "credit:2", "--source", "crm=crm.csv", "--source", "shop=shop.csv", "-o", "load.cqa"]
+        self.assertEqual(self.command("load", *words)[0], 0)
+
+    def test_questions_come_first_with_links_and_then_the_lists(self) -> None:
+        self.load()
+        self.file("q.cqa", "disputed select id, city from customer;\nrange sum credit from customer;\nask exists from customer where city = 'Oslo';\n")
+        status, out, told = self.command("report", "load.cqa", "q.cqa", "--title", "Customers <of> May")
+        self.assertEqual((status, told), (0, ""))
+        read = Reader(out)
+        words = " ".join(read.text.split())
+        self.assertRegex(words, r"Customers <of> May Made on 20\d\d-\d\d-\d\d at \d\d:\d\d \(UTC[+-]\d{4}\) by cqa \d+\.\d+ from load.cqa, q.cqa\.")
+        links = [attributes["href"] for tag, attributes in read.tags if tag == "a"]
+        self.assertEqual(links, ["#q1", "#q2", "#q3", "#lists", "#t-customer"])
+        order = [attributes["id"] for _, attributes in read.tags if "id" in attributes and not attributes["id"].endswith("-head")]
+        self.assertEqual(order, ["q1", "q2", "q3", "lists", "t-customer"])
+        for wanted in ("disputed select id, city from customer 3 certain, 4 disputed", "range sum credit from customer between 18.00 and 18.50",
+                       "ask exists from customer where city = 'Oslo' disputed", "Table customer 2 of 5 keys in conflict",
+                       "table list file records read rows here keys in it alone customer crm crm.csv 4 4 1 customer shop shop.csv 4 4 1 customer in several lists (empty) (empty) (empty) 3"):
+            self.assertIn(wanted, words)
+
+    def test_rows_have_the_names_of_their_columns_and_marks(self) -> None:
+        self.load()
+        self.file("q.cqa", "ask select id, city from customer;\nrange sum credit from customer;\n")
+        out = self.command("report", "load.cqa", "q.cqa")[1]
+        marked = re.findall(r"<mark><bdi>([^<]*)</bdi></mark>", out)
+        self.assertEqual(marked, ["Oslo", "9.00", "9.00", "9.50"])
+        self.assertIn("id name city credit source 1 Ada Oslo 9.00 crm", " ".join(Reader(out).text.split()))
+
+    def test_a_union_is_explained_by_the_rows_that_matter(self) -> None:
+        self.load()
+        self.file("q.cqa", "ask select city from customer where city = 'K\u00f6ln' and id < 5 union select city from customer where city = 'Oslo';\n")
+        words = " ".join(Reader(self.command("report", "load.cqa", "q.cqa")[1]).text.split())
+        why = words.split("Why ('K\u00f6ln') isn't certain")[1].split("How it was found")[0]
+        self.assertIn("3 Cy Bonn 1.00 crm", why)
+        for other in ("Ada", "Bo ", "Dag", "Eli"):
+            self.assertNotIn(other, why)
 
 
 if __name__ == "__main__":
