@@ -71,7 +71,7 @@ class Pages(ProgramCase):
                          "ask exists from customer where city <> 'Hamar';\nexplain row (1) for select id from customer where city = 'Oslo';\n"
                          "explain row (3) for select id from customer where name = 'Cy';\n")
         words = " ".join(read.text.split())
-        for wanted in ("8 rows", "6 keys", "1 key in conflict", "2 keys in conflict", "4 questions", "Bergen Oslo", "Certain rows: 1", "Disputed rows: 2", "Class: first-order.",
+        for wanted in ("8 rows", "6 keys", "1 key in conflict", "2 keys in conflict", "4 questions", "Bergen shop Oslo crm", "Certain rows: 1", "Disputed rows: 2", "Class: first-order.",
                        "Why (1, 'Ada') isn't certain", "In the table customer : id name city source 1 Ada Bergen shop", "Yes, whichever rows are right.", "Why (1) isn't certain",
                        "(3) is certain", "By the rows of customer with the key 3"):
             self.assertIn(wanted, words)
@@ -84,7 +84,7 @@ class Pages(ProgramCase):
                          "possible select city from c;\ndelete from c where city = 'Oslo';\nask select city from c;\n")
         words = " ".join(read.text.split())
         first, second = words.split("Question 2 s.cqa:6")
-        self.assertIn("Question 1 s.cqa:3 ask select city from c; Also asked by possible . Certain rows: 0", first)
+        self.assertIn("Question 1 s.cqa:3 ask select city from c ; Also asked by possible . Certain rows: 0", first)
         self.assertIn("Disputed rows: 2", first)
         self.assertIn("Certain rows: 1 city Bergen Disputed rows: 0", second)
 
@@ -111,7 +111,7 @@ class Pages(ProgramCase):
         read = self.page("-- cqa: column c.credit has 2 places\ncreate table c (id int, credit int, primary key (id));\ncopy c;\n1,90000\n1,12050\n2,100\n2,100\n\\.\n"
                          "range sum credit from c;\nrange sum credit from c;\nrange max credit from c where credit < 0;\nask select id from c;\n")
         words = " ".join(read.text.split())
-        for wanted in ("3 questions", "Question 1 s.cqa:9 range sum credit from c; It lies between 121.50 and 901.00 , whichever rows are right.",
+        for wanted in ("3 questions", "Question 1 s.cqa:9 range sum credit from c ; It lies between 121.50 and 901.00 , whichever rows are right.",
                        "In the table c : for id credit the least 1 120.50 the greatest 1 900.00 Question 2 s.cqa:11", "between none and none", "Question 3 s.cqa:12"):
             self.assertIn(wanted, words)
 
@@ -119,8 +119,8 @@ class Pages(ProgramCase):
         read = self.page("-- cqa: column c.credit has 2 places\ncreate table c (id int, credit int, primary key (id));\ncopy c;\n1,90000\n1,12050\n2,100\n2,100\n\\.\n"
                          "range max credit from c where credit > 0 group by id;\nrange count from c group by credit;\n")
         words = " ".join(read.text.split())
-        for wanted in ("2 questions", "range max credit from c where credit > 0 group by id; id least greatest 1 120.50 900.00 2 1.00 1.00",
-                       "range count from c group by credit; credit least greatest 1.00 1 1 120.50 0 1 900.00 0 1"):
+        for wanted in ("2 questions", "range max credit from c where credit > 0 group by id ; id least greatest 1 120.50 900.00 2 1.00 1.00",
+                       "range count from c group by credit ; credit least greatest 1.00 1 1 120.50 0 1 900.00 0 1"):
             self.assertIn(wanted, words)
 
     def test_nothing_is_cut_on_a_narrow_page(self) -> None:
@@ -157,7 +157,8 @@ class Pages(ProgramCase):
         read = self.page(SCRIPT.split("insert")[0] + "insert into customer values %s;\nask select id from customer;\n" % rows)
         self.assertIn("485 more", read.text)
         self.assertIn("500 further rows aren't on this page", read.text)
-        self.assertEqual([tag for tag, _ in read.tags].count("tr"), 1 + 15 + 1 + 485)
+        self.assertEqual(read.text.count("\n499\n"), 1)
+        self.assertEqual(read.text.count("\n500\n"), 0)
 
     def load(self) -> None:
         """Two lists as a script, load.cqa."""
@@ -188,7 +189,7 @@ class Pages(ProgramCase):
         self.file("q.cqa", "ask select id, city from customer;\nrange sum credit from customer;\n")
         out = self.command("report", "load.cqa", "q.cqa")[1]
         marked = re.findall(r"<mark><bdi>([^<]*)</bdi></mark>", out)
-        self.assertEqual(marked, ["Oslo", "9.00", "9.00", "9.50"])
+        self.assertEqual(marked, ["Oslo", "9.00", "Oslo", "9.00", "Bergen", "9.50"])
         self.assertIn("id name city credit source 1 Ada Oslo 9.00 crm", " ".join(Reader(out).text.split()))
 
     def test_a_union_is_explained_by_the_rows_that_matter(self) -> None:
