@@ -154,7 +154,7 @@ class Taken(Case):
 
     def test_composite_keys_strict_tables_and_columns(self) -> None:
         self.file("a.csv", "sensor,day,note,value\ns1,2026-02-28,x,4\n")
-        self.assertEqual(lines(self.load("--key", "sensor,day", "--strict", "--columns", "day,sensor,value", "--time", "day", "a.csv"))[0],
+        self.assertEqual(lines(self.load("--key", "sensor,day", "--strict", "--columns", "day,sensor,value", "--time", "day", "a.csv"))[1],
                          "create strict table t (day text, sensor text, value int, primary key (sensor, day));")
 
     def test_a_list_that_is_a_pipe_and_a_header_alone(self) -> None:
