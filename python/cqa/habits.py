@@ -171,7 +171,9 @@ def advice_for(text: str, at: int, refusal: str, schemas: Optional[Mapping[str, 
     two = _two_questions(text, at) if habit is not None and number[1] == "2" else None
     if two and takes is not None and all(map(takes, two)):
         return "write `%s` and `%s`: %s" % (*two, habit.write.partition("`: ")[2] if habit else "")
-    whole = rewritten(text, there) if number[1] in ("1", "2", "6", "9") and (habit is None or habit.is_whole) else ""
+    may_be_whole = habit.is_whole if habit is not None else number[1] != "6"
+    whole = rewritten(text, there) if number[1] in ("1", "2", "6", "9") and may_be_whole else ""
+    whole = "" if whole.rstrip(";").split() == text.split() else whole
     if whole and takes is not None and takes(whole):
         why = _why(habit, text, at, refusal, there) if not whole.startswith("range") or _COUNTS.search(habit.written if habit else "") else _RANGES
         return "write `%s`%s" % (whole, ": " + why if why else "")

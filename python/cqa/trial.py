@@ -2,6 +2,7 @@
 
 from __future__ import annotations
 
+import os
 from typing import Mapping
 
 from .blocks import create_text
@@ -26,8 +27,8 @@ class Trial:
     def takes(self, statement: str, schemas: Mapping[str, Schema], marks: Marks) -> bool:
         """Whether it is answered over these tables."""
         meaning = meaning_of(statement.rstrip(";"), marks, lambda: schemas)
-        if not self._left or meaning.wrong or meaning.faults:
-            return False
+        if not self._left or meaning.wrong or meaning.faults or not os.path.isfile(self._program):
+            return False  # `cqa try` would compile it anew
         self._left -= 1
         try:
             child = Child(self._program)

@@ -279,7 +279,8 @@ class Runs(ProgramCase):
 
     def test_csv_of_the_last_question(self) -> None:
         self.file("s.cqa", STAFF + "insert into staff values (1, 'a, \"b\"', 2), (2, 'x\n(99, 100)\ny', 3);\nask select room from staff;\nask select id, name from staff;\n")
-        self.assertEqual(self.command("csv", "s.cqa"), (0, 'id,name\n1,"a, ""b"""\n2,"x\n(99, 100)\ny"\n', ""))
+        self.assertEqual(self.command("csv", "s.cqa"), (0, 'id,name\n1,"a, ""b"""\n2,"x\n(99, 100)\ny"\n',
+                                                        "cqa csv: note: of 2 questions the last one is written, s.cqa:6\n"))
         self.assertEqual(self.command("csv", self.file("t.cqa", STAFF))[:2], (1, ""))
 
     def test_ranges(self) -> None:
