@@ -2,6 +2,8 @@
 
 from __future__ import annotations
 
+import contextlib
+import gc
 import re
 from collections import Counter
 from decimal import Decimal
@@ -177,6 +179,18 @@ class Conflicts:
         rows = [(", ".join(map(str, block.key)), name, _values_text(values))
                 for block in self.disputed for name, values in block.values.items()]
         return Rows((", ".join(self.key), "column", "values"), rows)._repr_html_()
+
+
+@contextlib.contextmanager
+def many_rows() -> Iterator[None]:
+    """Within it no garbage is looked for: where many rows are kept, each look goes over all of them, and finds nothing."""
+    was_looking = gc.isenabled()
+    gc.disable()
+    try:
+        yield
+    finally:
+        if was_looking:
+            gc.enable()
 
 
 def _values(rows: Sequence[Row], at: int, source: Optional[int]) -> Dict[str, Dict[str, None]]:

@@ -18,7 +18,7 @@ from . import answers
 from .answers import Classification, Explanation, Group, Kept, Range, UnionClassification
 from .blocks import create_text, rows_script
 from .columns import is_in_range, scaled
-from .conflicts import Columns, Conflicts
+from .conflicts import Columns, Conflicts, many_rows
 from .dumps import read_dump
 from .errors import LoadFault, LoadWarning, NoSuchName, Refused, ReplyFault, ScaleFault, ScaleWarning, StateFault, UnknownStatement
 from .files import written
@@ -358,7 +358,9 @@ class Session:
             if table in found:
                 found[table].add(rows)
 
-        for table in self._child.read(b"dump;", partial(read_dump, take=take)) & found.keys():
+        with many_rows():
+            left = self._child.read(b"dump;", partial(read_dump, take=take)) & found.keys()
+        for table in left:
             columns = self._columns(self._there(table), source)
             rows = self._lines("possible select %s from %s;" % (", ".join(columns.names[at] for at in columns.order), table))[:-1]
             found[table] = Conflicts(table, columns)
