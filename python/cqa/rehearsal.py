@@ -6,7 +6,7 @@ import hashlib
 import io
 import re
 import threading
-from typing import IO, Dict, List, NamedTuple, Optional, Sequence, Set, Union, cast
+from typing import IO, Dict, Iterator, List, NamedTuple, Optional, Sequence, Set, Union, cast
 
 from .replies import END_LINE, END_STATEMENT, reply_lines
 from .running import QUERY_VERBS
@@ -209,6 +209,10 @@ class _Output:
             self._reply = io.BytesIO(self._owner.next_reply())
             line = self._reply.readline()
         return line
+
+    def __iter__(self) -> Iterator[bytes]:
+        """The lines up to the last one."""
+        return iter(self.readline, b"")
 
     def read(self, size: int) -> bytes:
         """A line, which is shorter than what may be read."""
