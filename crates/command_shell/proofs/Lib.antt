@@ -4,6 +4,7 @@ pub mod Classing
 pub mod DemoEnds
 pub mod Doing
 pub mod Explaining
+pub mod Judged
 pub mod Keyed
 pub mod Lines
 pub mod Merged

@@ -1,18 +1,18 @@
 -- The rows of the statuses.
-use Rattle.std.proofs.Common.{◌≡◌, ◌≢◌, inl, inr, ◌≤◌, ◌+◌, ℕ, true, List, [], ◌++◌, length, Option, None, Some, refl, subst, arith}
+use Rattle.std.proofs.Common.{◌≡◌, ◌≢◌, inl, inr, ◌≤◌, ◌+◌, ℕ, Bool, true, List, [], ◌++◌, length, Option, None, Some, refl, subst, arith}
 use Rattle.std.proofs.lemmas.List.{length-append}
 use Rattle.std.specs.Io.KnownBytes.{Consumes}
 use Rattle.std.proofs.KnownBytes.{Appends-nil, Consumes-nil}
 use Rattle.cqa_io.specs.Causes.{Rose}
 use Rattle.command_shell.specs.declared.ending.Command.{Command}
-use Rattle.command_shell.specs.declared.ending.Command.TheVariants.{Run, Check, Demo}
+use Rattle.command_shell.specs.declared.ending.Command.TheVariants.{Run, Check, Demo, Judge}
 use Rattle.command_shell.specs.declared.ending.Ending.{Ending}
 use Rattle.command_shell.specs.declared.ending.Ending.TheVariants.{Answered, WithRefusal, BadWords, ReadFault, WriteFault, OutOfMemory, TooLong}
 use Rattle.session_state.specs.State.{State}
 use Rattle.command_shell.specs.Runs.{CutShort}
 use Rattle.command_shell.specs.GoingOn.{GoesOnFrom}
 use Rattle.command_shell.proofs.Written.{begins_run}
-use Rattle.command_shell.specs.Top.{Call, Ended, Outside, RunRow, CheckRow, DemoRow, BreaksOff, CountsReadFault, CountsWriteFault, IsAllRead, code_of, limit, within_limit, IsWithinLimit, IsCompleted}
+use Rattle.command_shell.specs.Top.{Call, Ended, Outside, RunRow, CheckRow, DemoRow, JudgeRow, BreaksOff, CountsReadFault, CountsWriteFault, IsAllRead, code_of, limit, within_limit, IsWithinLimit, IsCompleted}
 
 -- ---- how a run ends
 
@@ -80,10 +80,29 @@ demo_completed size WriteFault call status is row writes = absurd (writes row.1)
 demo_completed size OutOfMemory call status is row writes = inr (inr is)
 demo_completed size TooLong call status is row writes = absurd row
 
+far_longer : (bytes left : List ℕ) → length (bytes ++ left) ≤ 268435456 → length bytes ≡ 9223372036854775808 → ⊥
+far_longer bytes left short long = let both = length-append bytes left in omega (arith, short, long, both)
+
+far_too_long : (left now : Option (List ℕ)) (came : List ℕ) → Consumes left now came → IsWithinLimit left → length came ≡ 9223372036854775808 → ⊥
+far_too_long None now came took short long = short
+far_too_long (Some bytes) None came took short long = took
+far_too_long (Some bytes) (Some rest) came took short long = far_longer came rest (subst (λ l. length l ≤ limit) took short) long
+
+judge_completed : (reasons : Bool) (budget : ℕ) (ending : Ending) (call : Call) (status : ℕ) → status ≡ code_of ending → Consumes call.before.left call.after.left call.came → JudgeRow reasons budget ending call
+    → (CountsReadFault call → ⊥) → (CountsWriteFault call → ⊥) → IsWithinLimit call.before.left → IsCompleted status
+judge_completed reasons budget Answered call status is took row reads writes short = inl is
+judge_completed reasons budget WithRefusal call status is took row reads writes short = inr (inl is)
+judge_completed reasons budget BadWords call status is took row reads writes short = absurd row
+judge_completed reasons budget ReadFault call status is took row reads writes short = absurd (reads row.0)
+judge_completed reasons budget WriteFault call status is took row reads writes short = absurd (writes row.0)
+judge_completed reasons budget OutOfMemory call status is took row reads writes short = inr (inr is)
+judge_completed reasons budget TooLong call status is took row reads writes short = absurd (far_too_long call.before.left call.after.left call.came took short row.0)
+
 -- a call without a fault over an input within the limit
 pub completed : (command : Option Command) (ending : Ending) (before after : Outside) (old new : State) (status : ℕ) → status ≡ code_of ending → Ended command ending before after old new
     → command ≢ None → (Rose before.reads after.reads → ⊥) → (Rose before.writes after.writes → ⊥) → IsWithinLimit before.left → IsCompleted status
 completed (Some Run) ending before after old new status is e some reads writes short = run_completed ending _ status is e.took e.row reads writes short
 completed (Some Check) ending before after old new status is e some reads writes short = check_completed ending _ status is e.took e.row.0 reads writes short
 completed (Some (Demo size)) ending before after old new status is e some reads writes short = demo_completed size ending _ status is e.row writes
+completed (Some (Judge reasons budget)) ending before after old new status is e some reads writes short = judge_completed reasons budget ending _ status is e.took e.row.0 reads writes short
 completed None ending before after old new status is e some reads writes short = absurd (some refl)

@@ -1,21 +1,29 @@
--- Two words.
-use Rattle.std.proofs.Common.{◌≡◌, ℕ, List, [], ◌∷◌, length, map, codes, slice_index_or, refl, sym, ◌∙◌, ap, subst, arith}
+-- Which words stand for which commands.
+use Rattle.std.proofs.Common.{◌≡◌, ℕ, Bool, true, false, List, [], ◌∷◌, length, map, codes, slice_index_or, inl, inr, refl, sym, ◌∙◌, ap, arith}
 use Rattle.std.specs.Prelude.{String, string_bytes}
 use Rattle.std.specs.declared.alloc.Global.{Global}
-use Rattle.command_shell.specs.declared.ending.Command.{Command}
-use Rattle.command_shell.specs.declared.ending.Command.TheVariants.{Run, Check, Demo}
-use Rattle.command_shell.specs.Demo.{IsSize}
+use Rattle.command_shell.specs.declared.ending.Command.TheVariants.{Demo, Judge}
 use Rattle.command_shell.specs.Top.{AreWordsFor, StandFor}
 
-not_as_long : (m n : ℕ) → m ≡ 2 → n ≡ 1 → m ≡ n → ⊥
-not_as_long m n two one same = omega (arith, two, one, same)
+apart : (m n : ℕ) → (m ≡ n → ⊥) → (a b : List (List ℕ)) → length a ≡ m → length b ≡ n → a ≡ b → ⊥
+apart m n other a b k l e = other (sym k ∙ ap length e ∙ l)
+
+two_not_one : (w : List ℕ) (v u : List ℕ) → w ∷ [] ≡ v ∷ u ∷ [] → ⊥
+two_not_one w v u e = apart 1 2 (λ k. absurd (omega (arith, k))) (w ∷ []) (v ∷ u ∷ []) refl refl e
+
+head_of : (w v : List ℕ) (ws vs : List (List ℕ)) → w ∷ ws ≡ v ∷ vs → w ≡ v
+head_of w v ws vs e = ap (λ words. slice_index_or words 0 w) e
 
 -- one word is no size of `demo`
 pub no_demo : (words : List (String Global)) (word : List ℕ) (size : ℕ) → map string_bytes words ≡ word ∷ [] → AreWordsFor words (Demo size) → ⊥
-no_demo words word size one sized = not_as_long 2 1 refl refl (ap length (sym sized.1 ∙ one))
+no_demo words word size one sized = two_not_one word (codes "demo") sized.0 (sym one ∙ sized.1)
 
--- two words stand for no command where the second writes no size
-pub no_size : (word digits : List ℕ) → ((size : ℕ) → IsSize digits size → ⊥) → (command : Command) → StandFor (word ∷ digits ∷ []) command → ⊥
-no_size word digits none Run is = not_as_long (length (word ∷ digits ∷ [])) (length (codes "run" ∷ [])) refl refl (ap length is)
-no_size word digits none Check is = not_as_long (length (word ∷ digits ∷ [])) (length (codes "check" ∷ [])) refl refl (ap length is)
-no_size word digits none (Demo size) is = none size (subst (λ text. IsSize text size) (sym (ap (λ words. slice_index_or words 1 digits) is.1)) is.2)
+not_judge : codes "demo" ≡ codes "judge" → ⊥
+not_judge e = let k : 4 ≡ 5 = ap length e in absurd (omega (arith, k))
+
+-- `judge` and what follows it are no size of `demo`
+pub no_demo_judged : (words : List (List ℕ)) (reasons : Bool) (budget size : ℕ) → StandFor words (Judge reasons budget) → StandFor words (Demo size) → ⊥
+no_demo_judged words false budget size (inl is) sized = not_judge (sym (head_of (codes "judge") (codes "demo") [] (sized.0 ∷ []) (sym is.0 ∙ sized.1)))
+no_demo_judged words false budget size (inr is) sized = not_judge (sym (head_of (codes "judge") (codes "demo") (is.0 ∷ []) (sized.0 ∷ []) (sym is.1 ∙ sized.1)))
+no_demo_judged words true budget size (inl is) sized = not_judge (sym (head_of (codes "judge") (codes "demo") (codes "reasons" ∷ []) (sized.0 ∷ []) (sym is.0 ∙ sized.1)))
+no_demo_judged words true budget size (inr is) sized = not_judge (sym (head_of (codes "judge") (codes "demo") (codes "reasons" ∷ is.0 ∷ []) (sized.0 ∷ []) (sym is.1 ∙ sized.1)))

@@ -4,6 +4,7 @@ pub mod Runs
 pub mod Changing
 pub mod Demo
 pub mod GoingOn
+pub mod Judging
 pub mod Laws
 pub mod Parts
 pub mod Taking

@@ -5,7 +5,7 @@ use Rattle.std.specs.declared.alloc.Global.{Global}
 use Rattle.cqa_io.specs.Causes.{Rose}
 use Rattle.input_check.specs.Verdicts.{IsVerdict, BeginsVerdict}
 use Rattle.command_shell.specs.declared.ending.Command.{Command}
-use Rattle.command_shell.specs.declared.ending.Command.TheVariants.{Run, Check, Demo}
+use Rattle.command_shell.specs.declared.ending.Command.TheVariants.{Run, Check, Demo, Judge}
 use Rattle.command_shell.specs.declared.ending.Ending.{Ending}
 use Rattle.command_shell.specs.declared.ending.Ending.TheVariants.{Answered, WithRefusal, BadWords, ReadFault, WriteFault, OutOfMemory, TooLong}
 use Rattle.session_state.specs.State.{State}
@@ -13,17 +13,22 @@ use Rattle.cqa_model.specs.declared.limits.TheConstants.{LONGEST_INPUT}
 use Rattle.case_maker.specs.Scripts.{script_bytes}
 use Rattle.command_shell.specs.Runs.{Answers, CutShort}
 use Rattle.command_shell.specs.GoingOn.{BeginsRun}
+use Rattle.group_stream.specs.declared.ending.TheConstants.{MOST_JUDGED}
+use Rattle.group_stream.specs.Judges.{Judges}
+use Rattle.group_stream.specs.Judges.{CutShort as BeginsJudged}
+use Rattle.command_shell.specs.Judging.{HaveBudget, judge_words}
 use Rattle.command_shell.specs.Demo.{IsSize, IsDemo, BeginsDemo, BreaksOffIn}
 
 -- the most bytes of input that a call answers
 abbrev pub limit : ℕ
 limit = LONGEST_INPUT
 
--- the words that stand for a command: `run` or `check` alone, or `demo` and a size
+-- the words that stand for a command: `run` or `check` alone, `demo` and a size, or `judge`, which `reasons` and a budget may follow
 abbrev pub StandFor : List (List ℕ) → Command → Type 0
 StandFor words Run = words ≡ codes "run" ∷ []
 StandFor words Check = words ≡ codes "check" ∷ []
 StandFor words (Demo size) = (digits : List ℕ) × (words ≡ codes "demo" ∷ digits ∷ []) × IsSize digits size
+StandFor words (Judge reasons budget) = HaveBudget (judge_words reasons) words budget
 
 abbrev pub AreWordsFor : List (String Global) → Command → Type 0
 AreWordsFor words command = StandFor (map string_bytes words) command
@@ -124,6 +129,16 @@ DemoRow size WriteFault call = IsUnread call × CountsWriteFault call × BeginsD
 DemoRow size OutOfMemory call = IsUnread call × (call.written ≡ []) × BreaksOffIn call.old (script_bytes size) call.new
 DemoRow size TooLong call = ⊥
 
+-- The row of each ending of `judge`, with reasons or without, by searches of at most so many conflicts.
+abbrev pub JudgeRow : Bool → ℕ → Ending → Call → Type 0
+JudgeRow reasons budget Answered call = IsReadToEnd call × (length call.came ≤ MOST_JUDGED) × Judges reasons budget call.came true call.written false
+JudgeRow reasons budget WithRefusal call = IsReadToEnd call × (length call.came ≤ MOST_JUDGED) × Judges reasons budget call.came true call.written true
+JudgeRow reasons budget BadWords call = ⊥
+JudgeRow reasons budget ReadFault call = CountsReadFault call × (length call.came ≤ MOST_JUDGED) × ((refused : Bool) × Judges reasons budget call.came false call.written refused)
+JudgeRow reasons budget WriteFault call = CountsWriteFault call × BeginsJudged reasons budget call.came call.written
+JudgeRow reasons budget OutOfMemory call = BeginsJudged reasons budget call.came call.written
+JudgeRow reasons budget TooLong call = (length call.came ≡ MOST_JUDGED + 1) × ((refused : Bool) × Judges reasons budget (take MOST_JUDGED call.came) false call.written refused)
+
 -- Words that aren't accepted: nothing is read or written, and no fault is counted.
 abbrev pub BadWordsRow : Ending → Call → Type 0
 BadWordsRow ending call = (ending ≡ BadWords) × (call.came ≡ []) × (call.written ≡ []) × (call.after.reads ≡ call.before.reads) × (call.after.writes ≡ call.before.writes)
@@ -133,6 +148,7 @@ abbrev pub Row : Option Command → Ending → Call → Type 0
 Row (Some Run) ending call = RunRow ending call
 Row (Some Check) ending call = CheckRow ending call × (call.new ≡ call.old)
 Row (Some (Demo size)) ending call = DemoRow size ending call
+Row (Some (Judge reasons budget)) ending call = JudgeRow reasons budget ending call × (call.new ≡ call.old)
 Row None ending call = BadWordsRow ending call × (call.new ≡ call.old)
 
 -- The call ended so: with the bytes that came and those that were written, where they are told.

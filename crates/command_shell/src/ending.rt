@@ -17,6 +17,9 @@ pub enum Command {
     Check,
     /// Run the script of a size, and tell the numbers of the run.
     Demo(u32),
+    /// Judge the groups of lists in the input by searches of at most so many conflicts, and with reasons show a proof of each that
+    /// is certain.
+    Judge { reasons: bool, budget: u32 },
 }
 
 /// How the top call ends.

@@ -9,6 +9,7 @@ mod demo;
 mod ending;
 mod execute;
 mod input;
+mod judging;
 pub mod laws;
 mod pieces;
 mod reading;

@@ -1,16 +1,17 @@
 //! The top call: from words and bytes to a status.
 
-ghost use Rattle.std.specs.Prelude.{◌≡◌, ◌≤◌, ◌∷◌, [], ℕ, Option, Some, MatchOption};
+ghost use Rattle.std.specs.Prelude.{◌≡◌, ◌≤◌, ◌∷◌, [], ℕ, Option, Some, MatchOption, codes};
 ghost use Rattle.cqa_io.specs.Causes.{Rose};
 ghost use Rattle.session_state.specs.State.{opening, State};
 ghost use Rattle.command_shell.specs.declared.ending.Command.TheVariants.{Check as CheckWord, Demo as DemoWord};
 ghost use Rattle.command_shell.specs.Top.{code_of, StandFor, AreWordsFor, IsAskedBy, told, Ended, IsWithinLimit, IsCompleted};
 
-use crate::Session;
 use crate::demo::{demo, size_of};
 use crate::ending::{Command, Ending, ReadEnd, code};
 use crate::input::read_all;
+use crate::judging::{budget_of, judge};
 use crate::pieces::run;
+use crate::session::{CONFLICTS, Session};
 use crate::verdict::write_verdict;
 use cqa_io::{Sink, Source};
 use std::alloc::Global;
@@ -44,18 +45,69 @@ fn command_named(word: &str) -> Option<Command>
     if word == "check" {
         return Some(Command::Check);
     }
+    if word == "judge" {
+        return Some(Command::Judge {
+            reasons: false,
+            budget: CONFLICTS,
+        });
+    }
     None
 }
 
-/// The command that a word and another are.
-fn command_sized(word: &str, digits: &str) -> Option<Command>
-    ensures { MatchOption result ((command : Command) → StandFor (word.now ∷ digits.now ∷ []) command → ⊥) (λ command. StandFor (word.now ∷ digits.now ∷ []) command) }
+/// The command that `demo` and a size are.
+fn demo_sized(digits: &str) -> Option<Command>
+    ensures { MatchOption result ((command : Command) → StandFor (codes "demo" ∷ digits.now ∷ []) command → ⊥) (λ command. StandFor (codes "demo" ∷ digits.now ∷ []) command) }
 {
-    if word != "demo" {
-        return None;
-    }
     match size_of(digits.as_bytes()) {
         Some(size) => Some(Command::Demo(size)),
+        None => None,
+    }
+}
+
+/// The command that `judge` and another word are.
+fn judge_with(word: &str) -> Option<Command>
+    ensures { MatchOption result ((command : Command) → StandFor (codes "judge" ∷ word.now ∷ []) command → ⊥) (λ command. StandFor (codes "judge" ∷ word.now ∷ []) command) }
+{
+    if word == "reasons" {
+        return Some(Command::Judge {
+            reasons: true,
+            budget: CONFLICTS,
+        });
+    }
+    match budget_of(word.as_bytes()) {
+        Some(budget) => Some(Command::Judge {
+            reasons: false,
+            budget,
+        }),
+        None => None,
+    }
+}
+
+/// The command that a word and another are.
+fn command_with(word: &str, second: &str) -> Option<Command>
+    ensures { MatchOption result ((command : Command) → StandFor (word.now ∷ second.now ∷ []) command → ⊥) (λ command. StandFor (word.now ∷ second.now ∷ []) command) }
+{
+    if word == "demo" {
+        return demo_sized(second);
+    }
+    if word == "judge" {
+        return judge_with(second);
+    }
+    None
+}
+
+/// The command that three words are: `judge reasons` and a budget.
+fn command_of_three(word: &str, second: &str, digits: &str) -> Option<Command>
+    ensures { MatchOption result ((command : Command) → StandFor (word.now ∷ second.now ∷ digits.now ∷ []) command → ⊥) (λ command. StandFor (word.now ∷ second.now ∷ digits.now ∷ []) command) }
+{
+    if word != "judge" || second != "reasons" {
+        return None;
+    }
+    match budget_of(digits.as_bytes()) {
+        Some(budget) => Some(Command::Judge {
+            reasons: true,
+            budget,
+        }),
         None => None,
     }
 }
@@ -66,7 +118,10 @@ fn command(words: &[String]) -> Option<Command>
 {
     match words {
         [word] => command_named(word.as_str()),
-        [word, digits] => command_sized(word.as_str(), digits.as_str()),
+        [word, second] => command_with(word.as_str(), second.as_str()),
+        [word, second, third] => {
+            command_of_three(word.as_str(), second.as_str(), third.as_str())
+        }
         _ => None,
     }
 }
@@ -75,7 +130,7 @@ fn command(words: &[String]) -> Option<Command>
 /// words that aren't accepted, 3 and 4 for a fault of the source or the sink, 5 where memory runs out, 6 for an input that
 /// is too long.
 ///
-/// For every list of words and every input, the status and the bytes written are those of a machine that holds its tables as plain lists of rows: each answered ask gives exactly the rows that every repair gives, each once and ascending, each range, whole or by groups, has the ends of its definition, each explanation is true by its own, the rows that stand against a row rule it out, and none of them can be left out, and each refusal has its named cause and changes nothing, except that a spent search keeps its log.
+/// For every list of words and every input, the status and the bytes written are those of a machine that holds its tables as plain lists of rows: each answered ask gives exactly the rows that every repair gives, each once and ascending, each range, whole or by groups, has the ends of its definition, each explanation is true by its own, the rows that stand against a row rule it out, and none of them can be left out, each group of lists from elsewhere that is judged certain has some list whole in every choice of a row of each block, each that is open shows a choice that has none, and each refusal has its named cause and changes nothing, except that a spent search keeps its log.
 pub fn run_words<S: Source, K: Sink>(
     alloc: Global,
     words: &[String],
@@ -97,5 +152,8 @@ pub fn run_words<S: Source, K: Sink>(
         Some(Command::Run) => code(run(alloc, session, source, sink)),
         Some(Command::Check) => code(check(alloc, source, sink)),
         Some(Command::Demo(size)) => code(demo(alloc, session, sink, size)),
+        Some(Command::Judge { reasons, budget }) => {
+            code(judge(alloc, reasons, budget, source, sink))
+        }
     }
 }
