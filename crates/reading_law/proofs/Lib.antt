@@ -14,3 +14,15 @@ pub mod Columns
 pub mod Queries
 pub mod JoinedRanges
 pub mod Records
+pub mod WrittenPieces
+pub mod Quotes
+pub mod Outside
+pub mod Numbers
+pub mod Tokens
+pub mod Grammar
+pub mod WrittenStatements
+pub mod Says
+pub mod Cut
+pub mod WrittenTexts
+pub mod Resolved
+pub mod Allowed

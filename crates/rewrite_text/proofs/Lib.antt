@@ -4,3 +4,12 @@ pub mod Drafting
 pub mod Growing
 pub mod Schemas
 pub mod Printing
+pub mod Written
+pub mod CertificateBlocks
+pub mod Quiet
+pub mod Tables
+pub mod Resolving
+pub mod Reading
+pub mod Lengths
+pub mod Nodes
+pub mod Verified

@@ -4,3 +4,4 @@ pub mod Texts
 pub mod Certificates
 pub mod Drafts
 pub mod Growing
+pub mod Printed

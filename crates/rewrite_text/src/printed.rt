@@ -1,7 +1,10 @@
 //! The certificate of a row that is certain by a plan.
 
-ghost use Rattle.std.specs.Prelude.{◌≡◌, IfErr, IfOk, List, [], OnOk, length};
+ghost use Rattle.std.specs.Prelude.{◌≡◌, IfErr, IfOk, List, [], None, OnOk, length};
+ghost use Rattle.cqa_value.specs.Valid.{IsValidRow};
 ghost use Rattle.cqa_model.specs.Database.{stored};
+ghost use Rattle.cqa_model.specs.Valid.{AreValid};
+ghost use Rattle.query_resolve.specs.Checks.{answer_fault};
 ghost use Rattle.cqa_model.specs.Plan.{HoldsOver, IsPlanOf};
 ghost use Rattle.block_tree.specs.declared.node.Node.{Node};
 ghost use Rattle.block_tree.specs.Trees.{HasListedBlocks, PassesFor};
@@ -12,6 +15,7 @@ ghost use Rattle.rewrite_text.specs.Certificates.{HasLongCertificate, IsCertific
 ghost use Rattle.rewrite_text.specs.Drafts.{AddsStatements, IsBetween, IsTooLongBehind, RefusesBy};
 ghost use Rattle.rewrite_text.specs.Growing.{AddsTree, IsLongTree};
 ghost use Rattle.rewrite_text.specs.Made.{IsMade};
+ghost use Rattle.rewrite_text.specs.Printed.{HasValidLiterals, IsVerified};
 ghost use Rattle.rewrite_text.specs.Texts.{certificate_head, first_line};
 
 use crate::draft::{Draft, TooLong};
@@ -151,7 +155,8 @@ fn by_paths(
 /// and a line feed, that make the query's tables, say which row is certain for which query, name the plan's tables, and list
 /// blocks. The first block is the first one, in block order, of the plan's first table all of whose rows fit and have the rest
 /// of the plan hold with them; behind it stand, for each of its rows, the blocks of that rest. In every database that has
-/// these blocks the row is certain (Koutris and Wijsen, ACM TODS 2017).
+/// these blocks the row is certain (Koutris and Wijsen, ACM TODS 2017). Where the tables, the query's literals and the row could be written
+/// as statements, `check_rewriting` says of the text that it is verified, and nothing else.
 ///
 /// # Errors
 ///
@@ -168,6 +173,7 @@ pub fn certificate(
     requires long { length row.now ≡ length bound.now.query.now.answer }
     ensures text { IfOk result (IsCertificate bound.now.db.now bound.now.query.now row.now plan.now.order) }
     ensures over { IfErr result (RefusesBy (HasLongCertificate bound.now.db.now bound.now.query.now row.now plan.now.order)) }
+    ensures verified { AreValid bound.now.db.now → HasValidLiterals bound.now.query.now → IsValidRow row.now → answer_fault bound.now.db.now bound.now.query.now row.now ≡ None → IfOk result IsVerified }
     ensures passes { (nodes : List Node) → IsMade bound.now.query.now (stored bound.now.db.now) row.now [] plan.now.order nodes → PassesFor bound.now.query.now row.now plan.now.order nodes × HasListedBlocks bound.now.query.now (stored bound.now.db.now) nodes }
 {
     let paths = paths_of(alloc, bound, plan, bound.query.answer.as_slice())?;

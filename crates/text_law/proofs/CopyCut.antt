@@ -1,7 +1,7 @@
 -- How a copy with its block is cut.
 use Rattle.std.proofs.Common.{inl, ℕ, true, List, [], ◌∷◌, ◌++◌, codes, Some, refl, ap, ◌∙◌, append_assoc}
 use Rattle.script_lex.specs.Scripts.{IsText, IsCopy}
-use Rattle.text_law.proofs.Cut.{IsCutInto, no_gap}
+use Rattle.reading_law.proofs.Cut.{IsCutInto, no_gap}
 use Rattle.text_law.proofs.DumpBlocks.{AreLines, block_is}
 
 -- a copy with its block

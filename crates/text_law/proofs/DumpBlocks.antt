@@ -14,7 +14,7 @@ use Rattle.script_lex.specs.Scripts.{IsEndingLine, IsBlockLine, lines_text, IsCo
 use Rattle.script_lex.proofs.Runs.{AllPass-push}
 use Rattle.csv_rows.specs.Ends.{begins_with_end, has_end, value_has_end, row_has_end, plain_rows}
 use Rattle.csv_rows.specs.Texts.{quotes_doubled, field_bytes, record_bytes, rows_bytes, value_bytes}
-use Rattle.text_law.proofs.Numbers.{is_written, IsWritten}
+use Rattle.reading_law.proofs.Numbers.{is_written, IsWritten}
 
 -- the bytes are lines of a block
 pub record AreLines (bytes : List ℕ) : Type 0 where

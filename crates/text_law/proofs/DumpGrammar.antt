@@ -7,7 +7,7 @@ use Rattle.spj_syntax.specs.Lexemes.{Word}
 use Rattle.spj_syntax.specs.Shapes.{word, name, Shape, one, ◌⨾◌, Generates}
 use Rattle.spj_syntax.specs.Grammar.{a_name, listed, row, statement}
 use Rattle.spj_syntax.specs.Written.{listed_tokens, row_tokens, statement_tokens}
-use Rattle.text_law.proofs.Grammar.{one_then, name_is, name_generated, list_is, row_generated}
+use Rattle.reading_law.proofs.Grammar.{one_then, name_is, name_generated, list_is, row_generated}
 
 abbrev valued : Shape
 valued = one (word (codes "values")) ⨾ listed row

@@ -8,8 +8,8 @@ use Rattle.cqa_model.specs.Valid.{IsName}
 use Rattle.spj_syntax.specs.declared.tree.Statement.TheVariants as statements
 use Rattle.spj_syntax.specs.Lexemes.{Word}
 use Rattle.spj_syntax.specs.Written.{row_tokens, statement_tokens}
-use Rattle.text_law.proofs.Tokens.{Spelled, nothing_more, blank_then}
-use Rattle.text_law.proofs.Statements.{name_then, literal_word, last_word, row_then}
+use Rattle.reading_law.proofs.Tokens.{Spelled, nothing_more, blank_then}
+use Rattle.reading_law.proofs.WrittenStatements.{name_then, literal_word, last_word, row_then}
 
 pub copy_spelled : (name : List ℕ) → IsName name → Spelled (codes "copy " ++ name) (statement_tokens (statements.Copy name))
 copy_spelled name h = literal_word (codes "copy") name (Word name ∷ []) refl (lit≤ tt) (last_word name h)

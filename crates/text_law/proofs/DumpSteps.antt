@@ -34,10 +34,10 @@ use Rattle.session_state.specs.Replying.{on_table}
 use Rattle.command_shell.specs.Machine.{fault_in, Executes, Step}
 use Rattle.session_state.specs.Copy.{TellsCopied}
 use Rattle.command_shell.proofs.Sayings.{does_as_said}
-use Rattle.text_law.proofs.Statements.{raw_of, key_named, columns_named, create_spelled}
-use Rattle.text_law.proofs.Grammar.{create_generated}
-use Rattle.text_law.proofs.Says.{has_statement}
-use Rattle.text_law.proofs.Resolved.{schema_is, schema_once, schema_fits}
+use Rattle.reading_law.proofs.WrittenStatements.{raw_of, key_named, columns_named, create_spelled}
+use Rattle.reading_law.proofs.Grammar.{create_generated}
+use Rattle.reading_law.proofs.Says.{has_statement}
+use Rattle.reading_law.proofs.Resolved.{schema_is, schema_once, schema_fits}
 use Rattle.text_law.proofs.DumpStatements.{copy_spelled, insert_spelled}
 use Rattle.text_law.proofs.DumpGrammar.{copy_generated, insert_generated}
 use Rattle.text_law.proofs.DumpTexts.{create_short, copy_short, insert_short, insert_bytes}

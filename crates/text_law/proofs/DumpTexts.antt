@@ -21,11 +21,11 @@ use Rattle.cqa_model.specs.Valid.{IsName, HasNames}
 use Rattle.script_lex.specs.declared.modes.Mode.TheVariants.{Outside}
 use Rattle.script_lex.specs.Scripts.{BeginsOutright, IsText, IsCopy}
 use Rattle.csv_rows.specs.Dumps.{create_words}
-use Rattle.text_law.proofs.Numbers.{few_digits}
-use Rattle.text_law.proofs.Outside.{quiet_both, quiet_words}
-use Rattle.text_law.proofs.Quotes.{doubled_length}
-use Rattle.text_law.proofs.Statements.{columns_named, column_bytes, column_named_at}
-use Rattle.text_law.proofs.Texts.{quiet_name, quiet_row, each_is, places_below}
+use Rattle.reading_law.proofs.Numbers.{few_digits}
+use Rattle.reading_law.proofs.Outside.{quiet_both, quiet_words}
+use Rattle.reading_law.proofs.Quotes.{doubled_length}
+use Rattle.reading_law.proofs.WrittenStatements.{columns_named, column_bytes, column_named_at}
+use Rattle.reading_law.proofs.WrittenTexts.{quiet_name, quiet_row, each_is, places_below}
 
 pub copy_is_text : (name : List ℕ) → IsName name → IsText (codes "copy " ++ name)
 copy_is_text name h = record { outright = (refl, λ e f. omega (arith, e)); ends = Outside; leads = quiet_both (codes "copy ") name (quiet_words (codes "copy ") refl) (quiet_name name h); closed = refl }

@@ -22,8 +22,8 @@ use Rattle.reply_text.specs.declared.reply.Reply.TheVariants.{Certificate}
 use Rattle.session_state.specs.State.{State, IsState}
 use Rattle.reason_statements.specs.Prove.{ProvesRow}
 use Rattle.command_shell.proofs.Sayings.{does_as_said}
-use Rattle.text_law.specs.Printed.{HasValidLiterals, IsVerified}
-use Rattle.text_law.proofs.Verified.{printed_is_verified}
+use Rattle.rewrite_text.specs.Printed.{HasValidLiterals, IsVerified}
+use Rattle.rewrite_text.proofs.Verified.{printed_is_verified}
 use Rattle.text_law.specs.Proved.{ProvedIsVerified}
 
 -- a literal of the query is one that was written

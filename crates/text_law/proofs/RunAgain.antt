@@ -8,7 +8,7 @@ use Rattle.csv_rows.specs.Dumps.{dump_text}
 use Rattle.session_state.specs.State.{State}
 use Rattle.command_shell.specs.Runs.{Run, Closes, has_refusal}
 use Rattle.text_law.specs.Again.{DumpRunsAgain, DumpAnswersAgain}
-use Rattle.text_law.proofs.Cut.{whole_cut}
+use Rattle.reading_law.proofs.Cut.{whole_cut}
 use Rattle.text_law.proofs.Scripts.{TakesAll, all_run, all_once, dump_cut, dump_statements, dump_taken}
 use Rattle.text_law.proofs.DumpSteps.{with_tables}
 

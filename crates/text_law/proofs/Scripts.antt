@@ -19,9 +19,9 @@ use Rattle.reply_text.specs.Texts.{is_refusal}
 use Rattle.table_blocks.specs.Tables.{table_named}
 use Rattle.session_state.specs.State.{State}
 use Rattle.command_shell.specs.Runs.{Run, has_refusal}
-use Rattle.text_law.proofs.Cut.{IsCutInto, no_text, both_texts, plain_cut}
-use Rattle.text_law.proofs.Texts.{create_is_text, create_copies_not}
-use Rattle.text_law.proofs.Resolved.{Differ, last_free, last_found}
+use Rattle.reading_law.proofs.Cut.{IsCutInto, no_text, both_texts, plain_cut}
+use Rattle.reading_law.proofs.WrittenTexts.{create_is_text, create_copies_not}
+use Rattle.reading_law.proofs.Resolved.{Differ, last_free, last_found}
 use Rattle.text_law.proofs.DumpBlocks.{rows_lines, plain_no_end}
 use Rattle.text_law.proofs.CopyCut.{copy_cut}
 use Rattle.text_law.proofs.DumpTexts.{insert_bytes, copy_is_text, copy_copies, insert_is_text, insert_copies_not}

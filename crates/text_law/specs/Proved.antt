@@ -8,7 +8,7 @@ use Rattle.spj_syntax.specs.Texts.{HasStatement}
 use Rattle.reply_text.specs.declared.reply.Reply.TheVariants.{Certificate}
 use Rattle.session_state.specs.State.{State, IsState}
 use Rattle.command_shell.specs.Machine.{Step}
-use Rattle.text_law.specs.Printed.{IsVerified}
+use Rattle.rewrite_text.specs.Printed.{IsVerified}
 
 -- The law: where a valid state may reply a certificate to a `prove`, the certificate is verified.
 abbrev pub ProvedIsVerified : Type 0

@@ -11,8 +11,8 @@ use Rattle.spj_syntax.specs.declared.tree.RawBlock.{RawBlock}
 use Rattle.spj_syntax.specs.Lexemes.{Word}
 use Rattle.spj_syntax.specs.Written.{name_tokens, listed_tokens, row_tokens, order_tokens, block_tokens}
 use Rattle.rewrite_text.specs.Texts.{atom_name, certificate_order, certificate_block}
-use Rattle.text_law.proofs.Statements.{name_then, literal_word, row_then, join_names}
-use Rattle.text_law.proofs.Tokens.{Spelled, nothing_more, blank_then, list_then}
+use Rattle.reading_law.proofs.WrittenStatements.{name_then, literal_word, row_then, join_names}
+use Rattle.reading_law.proofs.Tokens.{Spelled, nothing_more, blank_then, list_then}
 use Rattle.block_tree.specs.declared.node.Node.{Node}
 
 module _ (db : List Table) (q : Query) where

@@ -25,7 +25,7 @@ use Rattle.query_resolve.specs.Checks.{fault_unless, first_fault, table_fault, d
 use Rattle.query_resolve.specs.Resolved.{ArePlacesOf, IsSchemaOf}
 use Rattle.query_resolve.proofs.Lookups.{named_at, named_nowhere}
 use Rattle.query_resolve.proofs.Members.{neither}
-use Rattle.text_law.proofs.Statements.{key_names, raw_of}
+use Rattle.reading_law.proofs.WrittenStatements.{key_names, raw_of}
 
 -- members with names, found by them
 module _ {A : Type 0} (f : A → List ℕ) (d : A) where

@@ -9,7 +9,7 @@ use Rattle.spj_syntax.specs.Parsed.{Fits, is_set}
 use Rattle.spj_syntax.specs.Shapes.{Shape, Generates}
 use Rattle.spj_syntax.specs.Texts.{HasStatement, IsFormOf}
 use Rattle.spj_syntax.specs.Written.{statement_tokens}
-use Rattle.text_law.proofs.Tokens.{Spelled}
+use Rattle.reading_law.proofs.Tokens.{Spelled}
 
 -- the text is this statement
 pub has_statement : (text : List ℕ) (tree : Tree) → Spelled text (statement_tokens tree) → is_set (statement_tokens tree) ≡ false → Generates statement (statement_tokens tree) → length text ≤ 1_048_576 → HasStatement text tree

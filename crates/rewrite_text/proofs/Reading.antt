@@ -14,14 +14,14 @@ use Rattle.table_blocks.specs.Tables.{table_named}
 use Rattle.rewrite_check.specs.declared.certificate.Certificate.{Certificate}
 use Rattle.rewrite_check.specs.Spelling.{Stage, Created, Ordered, LeadsOn, LeadsThrough, SpellsCertificate}
 use Rattle.rewrite_text.specs.Texts.{certificate_create, certificate_creates, statements_bytes}
-use Rattle.text_law.proofs.Cut.{IsCutInto, no_text, both_texts, plain_cut, whole_cut}
-use Rattle.text_law.proofs.Grammar.{create_generated}
-use Rattle.text_law.proofs.Resolved.{Differ, last_free, schema_is, schema_fits}
-use Rattle.text_law.proofs.Says.{has_statement}
-use Rattle.text_law.proofs.Statements.{raw_of, columns_named, key_named, create_spelled}
-use Rattle.text_law.proofs.Texts.{create_is_text, create_copies_not}
-use Rattle.text_law.proofs.Quiet.{IsSound}
-use Rattle.text_law.proofs.Tables.{AreTablesOf, emptied}
+use Rattle.reading_law.proofs.Cut.{IsCutInto, no_text, both_texts, plain_cut, whole_cut}
+use Rattle.reading_law.proofs.Grammar.{create_generated}
+use Rattle.reading_law.proofs.Resolved.{Differ, last_free, schema_is, schema_fits}
+use Rattle.reading_law.proofs.Says.{has_statement}
+use Rattle.reading_law.proofs.WrittenStatements.{raw_of, columns_named, key_named, create_spelled}
+use Rattle.reading_law.proofs.WrittenTexts.{create_is_text, create_copies_not}
+use Rattle.rewrite_text.proofs.Quiet.{IsSound}
+use Rattle.rewrite_text.proofs.Tables.{AreTablesOf, emptied}
 
 -- statements lead from one stage to another, each cut off by its `;`
 abbrev pub AreRead : Stage → List (List ℕ) → Stage → Type 0

@@ -1,4 +1,6 @@
 -- A printed certificate is verified.
+use Rattle.std.specs.Prelude.{IfOk, Result, Ok, Err}
+use Rattle.cqa_model.specs.Plan.{IsPlanOf}
 use Rattle.std.proofs.Common.{◌≡◌, ◌<◌, ◌≤◌, ℕ, suc, List, [], ◌∷◌, ◌++◌, Contains, Some, None, length, map, get_or, slice_get, unwrap_or, refl, sym, ap, ◌∙◌, subst, arith, append_assoc}
 use Rattle.std.proofs.lemmas.List.{length-map, append-nil}
 use Rattle.std.proofs.lemmas.List.Elements.{recursion_from_All, Contains-append_left, Contains-append_right}
@@ -34,21 +36,21 @@ use Rattle.rewrite_check.specs.declared.certificate.Certificate.{Certificate}
 use Rattle.rewrite_check.specs.Spelling.{Stage, Created, Asked, Ordered, LeadsOn, ChecksRewriting}
 use Rattle.rewrite_check.proofs.Unique.{checks_once}
 use Rattle.rewrite_text.specs.Texts.{atom_name, certificate_creates, certificate_prove, certificate_order, certificate_block, certificate_head, certificate_statements, statements_bytes}
-use Rattle.rewrite_text.specs.Certificates.{IsTooLong}
+use Rattle.rewrite_text.specs.Certificates.{IsCertificate, IsTooLong}
 use Rattle.rewrite_text.proofs.Made.{made_passes}
 use Rattle.csv_rows.proofs.Fitting.{rows_fit}
-use Rattle.text_law.proofs.Resolved.{Differ}
-use Rattle.text_law.proofs.Says.{has_statement, has_form}
-use Rattle.text_law.specs.Printed.{HasValidLiterals, PrintedIsVerified}
-use Rattle.text_law.proofs.Allowed.{IsQualified, IsWritable, prove_generated, order_generated, block_generated}
-use Rattle.text_law.proofs.CertificateBlocks.{written_block, order_spelled, block_spelled}
-use Rattle.text_law.proofs.Lengths.{each_short, few_written}
-use Rattle.text_law.proofs.Nodes.{IsNodeOf, in_tree}
-use Rattle.text_law.proofs.Quiet.{prove_sound, order_sound, block_sound}
-use Rattle.text_law.proofs.Reading.{AreRead, read_both, spells, create_of, creates_are, creates_read}
-use Rattle.text_law.proofs.Resolving.{zip_map, select, own_query, some_name, query_passes, query_is, same_query, row_passes}
-use Rattle.text_law.proofs.Tables.{AreTablesOf, tables_of, as_many_tables, own, own_names, many_names, nth_name, names_differ, name_found, table_found, table_of, own_kinds, table_has_name, column_has_name}
-use Rattle.text_law.proofs.Written.{IsNamed, IsSayable, written_column, written_condition, written_tables, prove_spelled}
+use Rattle.reading_law.proofs.Resolved.{Differ}
+use Rattle.reading_law.proofs.Says.{has_statement, has_form}
+use Rattle.rewrite_text.specs.Printed.{HasValidLiterals, IsVerified, PrintedIsVerified}
+use Rattle.reading_law.proofs.Allowed.{IsQualified, IsWritable, prove_generated, order_generated, block_generated}
+use Rattle.rewrite_text.proofs.CertificateBlocks.{written_block, order_spelled, block_spelled}
+use Rattle.rewrite_text.proofs.Lengths.{each_short, few_written}
+use Rattle.rewrite_text.proofs.Nodes.{IsNodeOf, in_tree}
+use Rattle.rewrite_text.proofs.Quiet.{prove_sound, order_sound, block_sound}
+use Rattle.rewrite_text.proofs.Reading.{AreRead, read_both, spells, create_of, creates_are, creates_read}
+use Rattle.rewrite_text.proofs.Resolving.{zip_map, select, own_query, some_name, query_passes, query_is, same_query, row_passes}
+use Rattle.rewrite_text.proofs.Tables.{AreTablesOf, tables_of, as_many_tables, own, own_names, many_names, nth_name, names_differ, name_found, table_found, table_of, own_kinds, table_has_name, column_has_name}
+use Rattle.rewrite_text.proofs.Written.{IsNamed, IsSayable, written_column, written_condition, written_tables, prove_spelled}
 
 -- what holds of each member holds of what is made of it
 all_mapped : {A B : Type 0} (P : B → Type 0) (f : A → B) (xs : List A) → ((x : A) → Contains xs x → P (f x)) → AllByRecursion P (map f xs)
@@ -249,3 +251,9 @@ printed_is_verified db q row plan text valid named fits literals row_valid row_f
       passing_elsewhere q query row plan is.nodes (same_query db q valid fits t.0 t.1 few) passes.0,
     ) in
     record { statements = statements_bytes statements; whole = is.is; checks = checks; only = λ reply h. checks_once (statements_bytes statements) reply Verified h checks }
+
+-- so is that of a call, if it gives one
+pub certificate_is_verified : {E : Type 0} (db : List Table) (q : Query) (row : List Value) (plan : List ℕ) (r : Result (List ℕ) E) → IsDatabase db → AreValid db → FitsDatabase q db → HasValidLiterals q → IsValidRow row
+    → answer_fault db q row ≡ None → IsPlanOf q plan → IfOk r (IsCertificate db q row plan) → IfOk r IsVerified
+certificate_is_verified db q row plan (Ok text) database valid fits literals row_valid row_fits planned is = printed_is_verified db q row plan text database valid fits literals row_valid row_fits planned is
+certificate_is_verified db q row plan (Err fault) database valid fits literals row_valid row_fits planned is = tt

@@ -28,8 +28,8 @@ pub record IsVerified (text : List ℕ) : Type 0 where
   pub checks : ChecksRewriting statements Verified
   pub only : (reply : RewriteCheck) → ChecksRewriting statements reply → reply ≡ Verified
 
--- The law: the certificate of a row by the plan of a query is verified, where the tables, the query's literals and the row could be
--- written as statements.
+-- The certificate of a row by the plan of a query is verified, where the tables, the query's literals and the row could be written as
+-- statements.
 abbrev pub PrintedIsVerified : Type 0
 PrintedIsVerified =
     (db : List Table) (q : Query) (row : List Value) (plan : List ℕ) (text : List ℕ) → IsDatabase db → AreValid db → FitsDatabase q db → HasValidLiterals q → IsValidRow row →

@@ -36,9 +36,9 @@ use Rattle.query_resolve.proofs.Scopes.{column_passes, kind_is}
 use Rattle.block_tree.specs.Trees.{SameButPlaces}
 use Rattle.rewrite_text.specs.Texts.{atom_name, column_name_at}
 use Rattle.csv_rows.proofs.Fitting.{same_self}
-use Rattle.text_law.proofs.Resolved.{missing, none_fails, passing}
-use Rattle.text_law.proofs.Written.{written_column, written_condition, written_tables, written_select}
-use Rattle.text_law.proofs.Tables.{no_atom, AreTablesOf, own, many_names, nth_name, names_differ, name_found, table_found, own_columns, own_keys, own_marks, own_kinds, own_width, scope_columns, place_found, own_database}
+use Rattle.reading_law.proofs.Resolved.{missing, none_fails, passing}
+use Rattle.rewrite_text.proofs.Written.{written_column, written_condition, written_tables, written_select}
+use Rattle.rewrite_text.proofs.Tables.{no_atom, AreTablesOf, own, many_names, nth_name, names_differ, name_found, table_found, own_columns, own_keys, own_marks, own_kinds, own_width, scope_columns, place_found, own_database}
 
 -- two lists side by side, by their places
 zip_from : {A B : Type 0} (R : A → B → Type 0) (xs : List A) (ys : List B) (d : A) (e : B) → length xs ≡ length ys → ((i : ℕ) → i < length xs → R (get_or xs i d) (get_or ys i e)) → AllZip R xs ys

@@ -18,11 +18,11 @@ use Rattle.script_lex.specs.declared.modes.Mode.TheVariants.{Outside}
 use Rattle.script_lex.specs.Scripts.{BeginsOutright, IsText, IsCopy}
 use Rattle.block_tree.specs.declared.node.Node.{Node}
 use Rattle.rewrite_text.specs.Texts.{name_at, atom_name, column_name_at, qualified_name, spaced_operator, condition_text, asked_text, from_text, where_text, certificate_prove, certificate_order, certificate_block}
-use Rattle.text_law.proofs.Outside.{Quiet, quiet_both, quiet_words}
-use Rattle.text_law.proofs.Statements.{join_names}
-use Rattle.text_law.proofs.Texts.{each_is, quiet_name, quiet_joined, quiet_list, quiet_literal, quiet_row}
-use Rattle.text_law.proofs.Written.{IsNamed, IsSayable, written_tables, prove_parts}
-use Rattle.text_law.proofs.CertificateBlocks.{block_parts}
+use Rattle.reading_law.proofs.Outside.{Quiet, quiet_both, quiet_words}
+use Rattle.reading_law.proofs.WrittenStatements.{join_names}
+use Rattle.reading_law.proofs.WrittenTexts.{each_is, quiet_name, quiet_joined, quiet_list, quiet_literal, quiet_row}
+use Rattle.rewrite_text.proofs.Written.{IsNamed, IsSayable, written_tables, prove_parts}
+use Rattle.rewrite_text.proofs.CertificateBlocks.{block_parts}
 
 -- a statement that is no copy
 pub record IsSound (text : List ℕ) : Type 0 where

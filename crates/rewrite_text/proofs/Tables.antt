@@ -19,9 +19,9 @@ use Rattle.query_resolve.specs.Names.{name_place, column_named, columns_at, atom
 use Rattle.query_resolve.proofs.Queries.{wide}
 use Rattle.query_resolve.proofs.Scopes.{columns-found, columns-named}
 use Rattle.rewrite_text.specs.Texts.{name_at, atom_name, column_name_at}
-use Rattle.text_law.proofs.Resolved.{Differ, found, column_found}
-use Rattle.text_law.proofs.Statements.{columns_named as columns_have_names, column_named_at}
-use Rattle.text_law.proofs.Written.{written_tables, IsNamed}
+use Rattle.reading_law.proofs.Resolved.{Differ, found, column_found}
+use Rattle.reading_law.proofs.WrittenStatements.{columns_named as columns_have_names, column_named_at}
+use Rattle.rewrite_text.proofs.Written.{written_tables, IsNamed}
 
 -- the atom that stands where none is
 abbrev pub no_atom : Atom

@@ -28,9 +28,9 @@ use Rattle.script_lex.proofs.Longest.{blank_stands, single_stands}
 use Rattle.spj_syntax.specs.Lexemes.{Lexeme, Word, Number, Quoted, Mark, of_kind, undoubled}
 use Rattle.spj_syntax.specs.Parsed.{lexemes, Fits}
 use Rattle.spj_syntax.specs.Written.{each_after, between, listed_tokens, anded_tokens, literal_tokens, op_symbol}
-use Rattle.text_law.proofs.Numbers.{is_written, integer_again, IsWritten}
-use Rattle.text_law.proofs.Pieces.{Stops, word_first, digits_first, minus_first, short_first, double_first}
-use Rattle.text_law.proofs.Quotes.{quoted, text_first, inside_is, doubled_utf8, undoubled_is}
+use Rattle.reading_law.proofs.Numbers.{is_written, integer_again, IsWritten}
+use Rattle.reading_law.proofs.WrittenPieces.{Stops, word_first, digits_first, minus_first, short_first, double_first}
+use Rattle.reading_law.proofs.Quotes.{quoted, text_first, inside_is, doubled_utf8, undoubled_is}
 
 -- from a place on a text is pieces that stand for these tokens, none of which is too long or out of range
 pub record StandsFor (text : List ℕ) (at : ℕ) (ls : List Lexeme) : Type 0 where

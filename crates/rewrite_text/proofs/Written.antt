@@ -27,9 +27,9 @@ use Rattle.spj_syntax.specs.Lexemes.{Lexeme, Word, Mark}
 use Rattle.spj_syntax.specs.Limits.{most_items}
 use Rattle.spj_syntax.specs.Written.{name_tokens, literal_tokens, each_after, between, listed_tokens, anded_tokens, filtered_tokens, op_symbol, col_tokens, cond_tokens, row_tokens, head_tokens, select_tokens, statement_tokens}
 use Rattle.rewrite_text.specs.Texts.{name_at, atom_name, column_name_at, qualified_name, spaced_operator, condition_text, asked_text, from_text, where_text, certificate_prove}
-use Rattle.text_law.proofs.Pieces.{Stops}
-use Rattle.text_law.proofs.Statements.{name_then, literal_word, row_then, join_names}
-use Rattle.text_law.proofs.Tokens.{Spelled, nothing_more, word_then, word_is, blank_then, dot_then, operator_then, literal_then, list_then, ands_then}
+use Rattle.reading_law.proofs.WrittenPieces.{Stops}
+use Rattle.reading_law.proofs.WrittenStatements.{name_then, literal_word, row_then, join_names}
+use Rattle.reading_law.proofs.Tokens.{Spelled, nothing_more, word_then, word_is, blank_then, dot_then, operator_then, literal_then, list_then, ands_then}
 
 -- the same items, named otherwise
 after_map : {A B : Type 0} (l : Lexeme) (f : B → List Lexeme) (g : A → B) (xs : List A) → each_after l (λ x. f (g x)) xs ≡ each_after l f (map g xs)

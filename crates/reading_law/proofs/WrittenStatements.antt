@@ -20,8 +20,8 @@ use Rattle.spj_syntax.specs.declared.tree.Statement.TheVariants as statements
 use Rattle.spj_syntax.specs.Lexemes.{Lexeme, Word, Mark}
 use Rattle.spj_syntax.specs.Written.{name_tokens, literal_tokens, column_tokens, listed_tokens, each_after, row_tokens, strict_tokens, schema_tokens, statement_tokens}
 use Rattle.csv_rows.specs.Dumps.{create_words}
-use Rattle.text_law.proofs.Pieces.{Stops}
-use Rattle.text_law.proofs.Tokens.{Spelled, nothing_more, word_then, blank_then, open_then, close_then, comma_then, literal_then, list_then, word_is}
+use Rattle.reading_law.proofs.WrittenPieces.{Stops}
+use Rattle.reading_law.proofs.Tokens.{Spelled, nothing_more, word_then, blank_then, open_then, close_then, comma_then, literal_then, list_then, word_is}
 
 -- a name, and what comes behind it
 pub name_then : (w rest : List ℕ) (ls : List Lexeme) → IsName w → Stops rest → Spelled rest ls → Spelled (w ++ rest) (name_tokens w ++ ls)

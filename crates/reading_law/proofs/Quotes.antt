@@ -13,7 +13,7 @@ use Rattle.script_lex.specs.Tokens.{IsQuoted, IsLongest, inside}
 use Rattle.script_lex.proofs.Longest.{text_stands}
 use Rattle.script_lex.proofs.Quotes.{is_39}
 use Rattle.spj_syntax.specs.Lexemes.{undoubled}
-use Rattle.text_law.proofs.Pieces.{is_stop, Stops}
+use Rattle.reading_law.proofs.WrittenPieces.{is_stop, Stops}
 
 -- a value between quotes
 abbrev pub quoted : List ℕ → List ℕ

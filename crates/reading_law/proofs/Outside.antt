@@ -8,7 +8,7 @@ use Rattle.script_lex.specs.Bytes.{is_letter, is_digit, is_word_byte, AllPass}
 use Rattle.script_lex.specs.Scripts.{after, is_text_byte, Leads}
 use Rattle.script_lex.proofs.Leading.{Leads-append}
 use Rattle.script_lex.proofs.Quotes.{is_39}
-use Rattle.text_law.proofs.Quotes.{quoted}
+use Rattle.reading_law.proofs.Quotes.{quoted}
 
 -- neither a quote nor a dash nor a `;`
 abbrev pub is_plain : ℕ → Bool

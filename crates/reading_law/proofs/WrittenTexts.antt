@@ -20,10 +20,10 @@ use Rattle.script_lex.specs.Bytes.{is_word_byte, is_digit}
 use Rattle.script_lex.specs.Scripts.{BeginsOutright, IsText, IsCopy}
 use Rattle.script_lex.specs.Tokens.{IsToken}
 use Rattle.csv_rows.specs.Dumps.{create_words}
-use Rattle.text_law.proofs.Numbers.{is_written, IsWritten}
-use Rattle.text_law.proofs.Outside.{is_plain, Quiet, word_plain, letter_plain, digit_plain, mono, quiet_plain, quiet_both, quiet_words, quiet_minus, quiet_text}
-use Rattle.text_law.proofs.Statements.{columns_named, column_bytes, column_named_at}
-use Rattle.text_law.proofs.Tokens.{word_is}
+use Rattle.reading_law.proofs.Numbers.{is_written, IsWritten}
+use Rattle.reading_law.proofs.Outside.{is_plain, Quiet, word_plain, letter_plain, digit_plain, mono, quiet_plain, quiet_both, quiet_words, quiet_minus, quiet_text}
+use Rattle.reading_law.proofs.WrittenStatements.{columns_named, column_bytes, column_named_at}
+use Rattle.reading_law.proofs.Tokens.{word_is}
 
 quiet_word : (w : List ℕ) → IsToken kinds.Word w → Quiet w
 quiet_word [] h = absurd h

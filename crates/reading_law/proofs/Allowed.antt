@@ -17,7 +17,7 @@ use Rattle.spj_syntax.specs.Lexemes.{Lexeme, Word, Mark}
 use Rattle.spj_syntax.specs.Shapes.{word, name, mark, one, ◌⨾◌, Generates}
 use Rattle.spj_syntax.specs.Grammar.{a_name, optional, listed, anded, filtered, literal, op, col, cond, head, query, any_row, row_for, verb, statement, order, block, table_rows, row}
 use Rattle.spj_syntax.specs.Written.{name_tokens, literal_tokens, listed_tokens, anded_tokens, filtered_tokens, op_symbol, col_tokens, cond_tokens, row_tokens, row_for_tokens, head_tokens, select_tokens, verb_tokens, statement_tokens, table_rows_tokens, order_tokens, block_tokens}
-use Rattle.text_law.proofs.Grammar.{one_is, then, one_then, separated_is, list_is, name_is, name_generated, literal_generated, all_anything, row_generated}
+use Rattle.reading_law.proofs.Grammar.{one_is, then, one_then, separated_is, list_is, name_is, name_generated, literal_generated, all_anything, row_generated}
 
 -- a column that is written with its table, by their names
 abbrev pub IsQualified : RawCol → Type 0
