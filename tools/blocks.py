@@ -3,7 +3,8 @@
 
     tools/blocks.py [PROGRAM]
 
-A block ```cqa is a script, and the block ```reply behind it what the program has to write. In docs/ each script is a
+A block ```cqa is a script, and the block ```reply behind it what the program has to write; a block ```groups has lists for
+`judge`, and the block ```verdicts behind it the replies. In docs/ each script is a
 session of its own; in README.md all of them are one, which has to be the stored run of cqa_cli. Rows of a table whose first
 cell is a statement and whose second is its reply, both in back quotes, are run behind the table `staff`. An example is a
 script NAME.cqa, or a proof NAME.lrat or NAME.rewriting, with its output NAME.out beside it; the proof that search.cqa ends
@@ -32,8 +33,8 @@ def replies(script, word="run"):
     return ran.stdout.decode()
 
 
-def blocks(text):
-    return re.findall(r"```cqa\n(.*?)```\n\n```reply\n(.*?)```", text, flags=re.S)
+def blocks(text, given="cqa", replied="reply"):
+    return re.findall(r"```%s\n(.*?)```\n\n```%s\n(.*?)```" % (given, replied), text, flags=re.S)
 
 
 def compare(where, script, expected, got):
@@ -48,6 +49,8 @@ def scripts():
     for name in ("LANGUAGE.md", "SQL.md"):
         for script, expected in blocks(read("docs", name)):
             yield "docs/" + name, script, "run", expected
+        for groups, expected in blocks(read("docs", name), "groups", "verdicts"):
+            yield "docs/" + name, groups, "judge", expected
     script, expected = tour()
     yield "README.md", script, "run", expected
     for path in sorted(glob.glob(os.path.join(TOP, "examples", "*.out"))):
