@@ -345,6 +345,16 @@ class Session:
         rows = self._scaled(map(row_of, lines[:-1]), self._column_places(names, [table]))
         return conflicts_of(table, names, schema.key, told if told not in schema.key else None, rows)
 
+    @property
+    def places(self) -> Mapping[Tuple[str, str], int]:
+        """The places of columns that hold numbers with places, by table and column."""
+        return self._places
+
+    def source_of(self, schema: Schema) -> str:
+        """The column of sources with which a table was loaded, or nothing."""
+        source = self._sources.get(schema.table, "")
+        return source if source in schema.columns and source not in schema.key else ""
+
     def _there(self, table: str) -> Schema:
         schema = self.schema(table)
         if schema is None:
