@@ -160,12 +160,19 @@ function listItem(number, place) {
   return element("li", {}, made);
 }
 
+/** A head before the first of the keys on which no question hangs. */
+function headOf(place) {
+  const isLast = (at) => keys[state.shown[at]].matters === "";
+  const isFirst = data.questions.length > 0 && isLast(place) && (place === 0 || !isLast(place - 1));
+  return isFirst ? [element("li", { class: "head" }, element("h3", {}, "No question hangs on these"))] : [];
+}
+
 function showList() {
   const first = Math.max(0, Math.min(state.at - SHOWN / 2, state.shown.length - SHOWN));
-  const items = state.shown.slice(first, first + SHOWN).map((number, place) => listItem(number, first + place));
+  const items = state.shown.slice(first, first + SHOWN).flatMap((number, place) => [...headOf(first + place), listItem(number, first + place)]);
   at("list").replaceChildren(...items);
   at("above").textContent = first > 0 ? first + " more above" : "";
-  const below = state.shown.length - first - items.length;
+  const below = Math.max(0, state.shown.length - first - SHOWN);
   at("below").textContent = below > 0 ? below + " more below" : "";
   const now = at("list").querySelector(".current");
   if (now) now.scrollIntoView({ block: "nearest" });
