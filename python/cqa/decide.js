@@ -8,7 +8,7 @@ const keys = data.keys;
 const NONE = -1;          // none of the rows is right
 const LEFT = -2;          // the key is left as it is
 const SHOWN = 100;        // so many keys of the list stand in the page at a time
-const room = "cqa-decide:" + tables.map((table) => table.name + " " + table.digest).join(" ");
+const room = "cqa-decide:" + tables.map((table) => table.told).join("");
 
 const state = { acts: [], picked: new Map(), shown: [], at: 0, isKept: true };
 const at = (id) => document.getElementById(id);
@@ -259,7 +259,7 @@ function script() {
   const ruled = new Map(kept.flatMap((one) => one.rows.map(([key, row]) => [key, row])));
   const picked = [...state.picked].filter(([key, row]) => ruled.get(key) !== row).sort(([a], [b]) => a - b);
   const touched = new Set([...state.picked.keys()].map((key) => keys[key].table));
-  const heads = [...touched].sort((a, b) => a - b).map((one) => "-- cqa: table " + tables[one].name + " has " + tables[one].rows + " rows, sha256 " + tables[one].digest + "\n");
+  const heads = [...touched].sort((a, b) => a - b).map((one) => tables[one].told);
   const prefers = kept.map(({ rule: { table, source } }) => {
     const { name, columns, source: column } = tables[table];
     return remark("where a key has a row of source " + source + ", that one") + "prefer " + name + " where " + columns[column] + " = " + literal("text", source) + ";\n";

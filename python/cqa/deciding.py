@@ -24,6 +24,7 @@ from .rows import Cell
 from .running import Answer, loaded
 from .scripts import Schema
 from .session import Session
+from .stated import Stated, stated
 from .words import told as words_told
 
 #: Of each question so many answers are shown that hang on a key.
@@ -37,7 +38,7 @@ class Table(NamedTuple):
     names: List[str]
     places: List[int]
     source: str
-    digest: str
+    told: Stated
     conflicts: Conflicts
 
 
@@ -80,15 +81,11 @@ def tables_of(session: Session, source: str = "") -> List[Table]:
 
 def _table(session: Session, schema: Schema, source: str) -> Table:
     names = schema.key + [name for name in schema.columns if name not in schema.key]
-    lines = session.tell("possible select %s from %s;" % (", ".join(names), schema.table))[:-1]
+    lines = session.tell("possible select %s from %s;" % (", ".join(names), schema.table))
     found = session.source_of(schema) if source not in schema.columns else source
-    conflicts = conflicts_of(schema.table, names, schema.key, found or None, map(row_of, lines))
-    return Table(schema, names, [session.places.get((schema.table, name), -1) for name in names], found, digest_of(lines), conflicts)
-
-
-def digest_of(lines: Sequence[str]) -> str:
-    """The digest of a table's rows, as `possible` of all its columns gives them, those of the key first."""
-    return hashlib.sha256("".join(line + "\n" for line in lines).encode("utf-8")).hexdigest()
+    conflicts = conflicts_of(schema.table, names, schema.key, found or None, map(row_of, lines[:-1]))
+    told = stated(schema.table, names, [line.encode("utf-8") for line in lines])
+    return Table(schema, names, [session.places.get((schema.table, name), -1) for name in names], found, told, conflicts)
 
 
 def _key(table: Table, values: Sequence[Cell]) -> Key:
@@ -122,8 +119,8 @@ def decide_page(session: Session, asked: Sequence[Question], title: str, source:
 
 def _table_data(table: Table) -> Dict[str, Any]:
     kinds = ["text" if table.schema.columns[name] == "text" else "int" if places < 0 else "places" for name, places in zip(table.names, table.places)]
-    return {"name": table.schema.table, "columns": table.names, "kinds": kinds, "key": list(range(len(table.schema.key))), "rows": table.conflicts.rows,
-            "source": table.names.index(table.source) if table.source else None, "digest": table.digest}
+    return {"name": table.schema.table, "columns": table.names, "kinds": kinds, "key": list(range(len(table.schema.key))),
+            "source": table.names.index(table.source) if table.source else None, "told": table.told.text()}
 
 
 def _key_data(table: Table, block: Tuple[int, List[Tuple[Cell, ...]]], key: Key, found: Sequence[Hanging]) -> Dict[str, Any]:
