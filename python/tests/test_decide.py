@@ -13,6 +13,7 @@ from typing import Any, List
 from support import ProgramCase
 
 import cqa
+from cqa.deciding import tables_of
 
 try:
     from selenium import webdriver
@@ -29,7 +30,7 @@ HAS_BROWSER = webdriver is not None and os.path.exists(BROWSER) and os.path.exis
 LOAD = """-- cqa: column customer.credit has 2 places
 -- cqa: column customer.source has the sources
 create table customer (id int, name text, city text, credit int, source text, primary key (id));
-insert into customer values (1, 'Ada', 'Oslo', 1250, 'crm'), (1, 'Ada', 'Bergen', 1250, 'shop'), (2, 'Bo', 'Bergen', 500, 'crm');
+insert into customer values (1, 'Ada', 'Oslo', 12.50, 'crm'), (1, 'Ada', 'Bergen', 1250, 'shop'), (2, 'Bo', 'Bergen', 500, 'crm');
 insert into customer values (3, 'Cy', 'Oslo', 700, 'crm'), (3, 'Cy', 'Voss', 700, 'shop'), (4, 'Dag', 'Oslo', 100, 'crm'), (4, 'Dag', 'Oslo', 200, 'shop');
 create table door (room int, customer int, primary key (room));
 insert into door values (10, 1), (11, 3), (11, 4);
@@ -67,6 +68,33 @@ class Command(ProgramCase):
         self.assertEqual(sorted(places[:3]) + places[3:], sorted(places))
         self.assertIn("1 disputed answer", page)
         self.assertIn("range sum credit from customer by 1.00", page)
+
+
+    def test_decisions_for_other_rows_are_refused(self) -> None:
+        self.file("load.cqa", LOAD)
+        with cqa.Session() as session:
+            session.run(LOAD)
+            told = tables_of(session)[0].told.text()
+        self.file("decided.cqa", told + "delete from customer where id = 1 and source = 'shop';\n")
+        self.file("all.cqa", "possible select id, city from customer where id = 1;\n")
+        status, rows, said = self.command("csv", "load.cqa", "decided.cqa", "all.cqa")
+        self.assertEqual((0, "id,city\n1,Oslo\n"), (status, rows), said)
+        self.file("more.cqa", "insert into customer values (9, 'New', 'Oslo', 1, 'web');\n")
+        for word in ("run", "csv", "conflicts", "report"):
+            status, rows, said = self.command(word, "load.cqa", "more.cqa", "decided.cqa", "all.cqa")
+            self.assertEqual(1, status, word)
+            self.assertIn("decided.cqa: it was saved for other lists: customer has 8 rows in place of 7 now", said)
+            self.assertNotIn("Oslo", rows)
+        self.file("other.cqa", "delete from customer where id = 2;\ninsert into customer values (2, 'Bo', 'Oslo', 500, 'crm');\n")
+        status, _, said = self.command("csv", "load.cqa", "other.cqa", "decided.cqa", "all.cqa")
+        self.assertEqual(1, status)
+        self.assertIn("customer has other rows now", said)
+        with cqa.Session() as session:
+            session.run(LOAD)
+            session.run("delete from customer where id = 2;")
+            with self.assertRaises(cqa.StateFault):
+                session.run(self.read("decided.cqa"))
+            self.assertEqual(6, len(session.rows("customer")))
 
 
 @unittest.skipUnless(HAS_BROWSER, "chromium, its driver and selenium aren't there")
