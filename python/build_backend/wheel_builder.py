@@ -35,7 +35,7 @@ def _modules() -> Dict[str, bytes]:
     files: Dict[str, bytes] = {}
     package = os.path.join(HERE, "cqa")
     for name in sorted(os.listdir(package)):
-        if name.endswith(".py") or name == "py.typed":
+        if name.endswith((".py", ".js", ".css")) or name == "py.typed":
             with open(os.path.join(package, name), "rb") as file:
                 files["cqa/" + name] = file.read()
     files["cqa/repository.txt"] = os.path.dirname(HERE).encode("utf-8", "surrogateescape")

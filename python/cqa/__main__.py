@@ -7,7 +7,7 @@ import sys
 from functools import partial
 from typing import Callable, Dict, Sequence
 
-from . import helping, load_command, looking, report, running, shell, trying
+from . import deciding, helping, load_command, looking, report, running, shell, trying
 from .ending import ended_with
 
 COMMANDS: Dict[str, Callable[[Sequence[str]], int]] = {
@@ -16,6 +16,7 @@ COMMANDS: Dict[str, Callable[[Sequence[str]], int]] = {
     "csv": looking.csv_main,
     "conflicts": looking.conflicts_main,
     "report": report.main,
+    "decide": deciding.main,
     "shell": shell.main,
     "help": helping.main,
     "try": trying.main,

@@ -137,7 +137,7 @@ class NoSuchName(CqaError, KeyError):
 
 
 class StateFault(CqaError):
-    """A file of a kept state isn't whole."""
+    """A kept state isn't whole, or decisions were saved for other rows than those that are there."""
 
 
 class ReplyFault(CqaError):

@@ -20,6 +20,7 @@ from .program import Child
 from .replies import END_STATEMENT, IS_REFUSAL
 from .scripts import Schema, Statement, fault_of, schema_of, statements, verb_of
 from .session import Session
+from .stated import Stated, stated_of
 from .trial import Trial
 from .words import told as words_told
 
@@ -69,13 +70,19 @@ def _marks_of(file: ScriptFile) -> Marks:
 
 class _Sent(NamedTuple):
     """A statement, with what it means over the columns that the comments of scripts speak of. fault: why it isn't sent. cause: why it
-    isn't sent, in words of this package, and where in the statement, in letters."""
+    isn't sent, in words of this package, and where in the statement, in letters. stated: what the file says of a table, where the
+    rows of the table are asked for."""
 
     file: ScriptFile
     statement: Statement
     fault: str
     meaning: Meaning
     cause: Optional[Tuple[int, str]] = None
+    stated: Optional[Stated] = None
+
+
+#: Stands where no statement of a file is meant.
+_NOTHING = Statement(0, 0, None, 0, True)
 
 
 class Runner:
@@ -119,6 +126,9 @@ class Runner:
                 if self._failure is not None:
                     raise self._failure
                 return
+            if sent.stated is not None:
+                self._compare(sent.file, sent.stated)
+                continue
             yield self._answer(sent)
             self.answered += 1
             if self._is_stopped or not sent.statement.complete:
@@ -128,6 +138,10 @@ class Runner:
         """As `answers`, but each statement is sent when the one before is dealt with, so that the program can be asked in between.
         before: called with the first word of each statement before it is sent."""
         for file in self._files:
+            for told in stated_of(file.script):
+                self._ask_for(told)
+                self.child.flush()
+                self._compare(file, told)
             for statement in statements(file.script):
                 sent = self._looked_at(file, statement)
                 before(verb_of(statement.text(file.script).decode("utf-8", "replace")))
@@ -159,6 +173,9 @@ class Runner:
 
     def _send_file(self, file: ScriptFile) -> bool:
         """Sends the statements of a file, and says whether the next file may follow."""
+        for told in stated_of(file.script):
+            self._put(_Sent(file, _NOTHING, "", Meaning(""), None, told))
+            self._ask_for(told)
         for statement in statements(file.script):
             sent = self._looked_at(file, statement)
             self._put(sent)
@@ -167,6 +184,16 @@ class Runner:
             if not sent.fault and sent.cause is None:
                 self._send_statement(sent)
         return True
+
+    def _ask_for(self, told: Stated) -> None:
+        """Asks for the rows of a table of which a file says something."""
+        self.child.write(told.question().encode("utf-8") + END_STATEMENT)
+
+    def _compare(self, file: ScriptFile, told: Stated) -> None:
+        """Raises StateFault where a table's rows aren't those that a file was saved for."""
+        fault = told.fault([line[:-1] for line in self.child.reply("possible")])
+        if fault:
+            raise StateFault("%s: %s" % (file.path, fault))
 
     def _looked_at(self, file: ScriptFile, statement: Statement) -> _Sent:
         """A statement with what is to know of it before it is sent."""

@@ -34,6 +34,7 @@ from .replies import IS_REFUSAL, row_of
 from .rows import Cell, Rows
 from .scaling import places_of, shown_number, stored
 from .scripts import Schema, Statement, aggregate_of, fault_of, quoted, selected, shown_schema, statements, tokens, verb_of
+from .stated import stated_of
 from .trial import Trial
 
 #: Statements that not every program knows: how each begins, and the reply of a program that doesn't know it.
@@ -102,8 +103,8 @@ class Session:
 
     def run(self, script: Union[str, bytes]) -> List[List[str]]:
         """Sends the statements of a script one after the other and gives the lines of each reply. The first refusal ends it and
-        is raised, and so is a script that ends within a statement (ValueError), or a kept state in it that isn't whole (StateFault), before
-        anything is sent. Statements are sent as by `tell`."""
+        is raised. Raised before anything is sent are a script that ends within a statement (ValueError), a kept state in it that isn't
+        whole, and decisions that were saved for other rows (StateFault). Statements are sent as by `tell`."""
         return list(self._replies(script.encode("utf-8") if isinstance(script, str) else script, _TOLD))
 
     def _replies(self, script: bytes, care: "_Care") -> Iterator[List[str]]:
@@ -115,6 +116,10 @@ class Session:
         parts = list(statements(script))
         if parts and not parts[-1].complete:
             raise ValueError("the script ends within a statement: %r" % script[parts[-1].start:][:200])
+        for told in stated_of(script):
+            fault = told.fault([line.encode("utf-8") for line in self._lines(told.question(), _MADE)])
+            if fault:
+                raise StateFault(fault)
         own = marks_of(script)
         for part in parts:
             yield [line.decode("utf-8") for line in self._told(script, part, care, own)]
@@ -382,6 +387,16 @@ class Session:
         told = source or self._marks.sources.get(schema.table)
         places = {name: count for (table, name), count in self._marks.places.items() if table == schema.table}
         return Columns(schema.columns, schema.key, told, places)
+
+    @property
+    def places(self) -> Mapping[Tuple[str, str], int]:
+        """The places of columns that hold numbers with places, by table and column."""
+        return self._marks.places
+
+    def source_of(self, schema: Schema) -> str:
+        """The column of sources with which a table was loaded, or nothing."""
+        source = self._marks.sources.get(schema.table, "")
+        return source if source in schema.columns and source not in schema.key else ""
 
     def _there(self, table: str) -> Schema:
         schema = self.schema(table)

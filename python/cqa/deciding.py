@@ -1,0 +1,215 @@
+"""The command `decide`: a page on which the conflicts of tables are settled, those first on which most of the questions' answers hang."""
+
+from __future__ import annotations
+
+import argparse
+import base64
+import datetime
+import hashlib
+import html
+import json
+import os
+import sys
+import warnings
+from typing import Any, Dict, List, NamedTuple, Sequence, Tuple
+
+from . import matter, page
+from .conflicts import Conflicts, conflicts_of
+from .errors import Refused, ScaleWarning
+from .files import standard_output, written
+from .matter import Blocks, Hanging, Key, Question
+from .replies import row_of
+from .report import questions_of
+from .rows import Cell
+from .running import Answer, loaded
+from .scripts import Schema
+from .session import Session
+from .stated import Stated, stated
+from .words import told as words_told
+
+#: Of each question so many answers are shown that hang on a key.
+_MOST_SHOWN = 5
+
+
+class Table(NamedTuple):
+    """A table with its rows as they are stored: names has its columns, those of the key first, in the order of the values."""
+
+    schema: Schema
+    names: List[str]
+    places: List[int]
+    source: str
+    told: Stated
+    conflicts: Conflicts
+
+
+def main(arguments: Sequence[str]) -> int:
+    """The command `decide FILE ..`. Where a statement is refused nothing is written."""
+    words = argparse.ArgumentParser(prog="cqa decide", description="A page on which one settles the conflicts of what script files make: those "
+                                    "first on which most disputed answers of the questions in the files hang. It saves a script, decided.cqa, to run behind them.")
+    words.add_argument("files", nargs="+", metavar="FILE")
+    words.add_argument("--source", metavar="COLUMN", help="the column of sources, where `cqa load` didn't mark one")
+    words.add_argument("--title", help="the page's title, in place of the files' names")
+    words.add_argument("-o", "--output", metavar="FILE", help="the page's file, in place of standard output")
+    told = words_told(words, arguments)
+    with warnings.catch_warnings():
+        warnings.simplefilter("ignore", ScaleWarning)  # values are handled as they are stored
+        return _main(told)
+
+
+def _main(told: argparse.Namespace) -> int:
+    answers: List[Answer] = []
+    session = loaded(told.files, answers)
+    if session is None:
+        print("cqa decide: nothing is written", file=sys.stderr)
+        return 1
+    with session:
+        text = decide_page(session, questions(answers), told.title or ", ".join(map(os.path.basename, told.files)), told.source or "")
+    with written(told.output) if told.output else standard_output() as out:
+        out.write(text.encode("utf-8", "replace"))
+    return 0
+
+
+def questions(answers: Sequence[Answer]) -> List[Question]:
+    """The questions of scripts, each once."""
+    return [Question(one.query, one.is_range) for one in questions_of(answers)]
+
+
+def tables_of(session: Session, source: str = "") -> List[Table]:
+    """The tables of a session, with what is in conflict."""
+    return [_table(session, schema, source) for schema in session.tables()]
+
+
+def _table(session: Session, schema: Schema, source: str) -> Table:
+    names = schema.key + [name for name in schema.columns if name not in schema.key]
+    lines = session.tell("possible select %s from %s;" % (", ".join(names), schema.table))
+    found = session.source_of(schema) if source not in schema.columns else source
+    conflicts = conflicts_of(schema.table, names, schema.key, found or None, map(row_of, lines[:-1]))
+    told = stated(schema.table, names, [line.encode("utf-8") for line in lines])
+    return Table(schema, names, [session.places.get((schema.table, name), -1) for name in names], found, told, conflicts)
+
+
+def _key(table: Table, values: Sequence[Cell]) -> Key:
+    return table.schema.table, tuple(values)
+
+
+def all_hanging(session: Session, asked: Sequence[Question], keys: Sequence[Key]) -> List[Hanging]:
+    """What hangs on the keys for each question that isn't refused over the tables as they are."""
+    found = []
+    for question in asked:
+        try:
+            found.append(matter.hanging(session, question, keys))
+        except Refused as refused:
+            print("note: %s: %s" % (question.query, refused.line), file=sys.stderr)
+    return found
+
+
+def decide_page(session: Session, asked: Sequence[Question], title: str, source: str = "") -> str:
+    """The page of a session's conflicts, ranked by what hangs on them for some questions."""
+    tables = tables_of(session, source)
+    blocks = {_key(table, one.key): (number, one.rows) for number, table in enumerate(tables) for one in table.conflicts.disputed}
+    found = all_hanging(session, asked, list(blocks))
+    ranked = matter.ranked(list(blocks), found)
+    data = {
+        "tables": [_table_data(table) for table in tables],
+        "questions": [_question_text(one.question) for one in found],
+        "keys": [_key_data(tables[blocks[key][0]], blocks[key], key, found) for key in ranked],
+    }
+    return _page(title, data, [_told(one) for one in found])
+
+
+def _table_data(table: Table) -> Dict[str, Any]:
+    kinds = ["text" if table.schema.columns[name] == "text" else "int" if places < 0 else "places" for name, places in zip(table.names, table.places)]
+    return {"name": table.schema.table, "columns": table.names, "kinds": kinds, "key": list(range(len(table.schema.key))),
+            "source": table.names.index(table.source) if table.source else None, "told": table.told.text()}
+
+
+def _key_data(table: Table, block: Tuple[int, List[Tuple[Cell, ...]]], key: Key, found: Sequence[Hanging]) -> Dict[str, Any]:
+    number, rows = block
+    shown = [_shown(table, row) for row in rows]
+    differs = [at for at, name in enumerate(table.names) if name != table.source and len({row[at] for row in rows}) > 1]
+    return {"table": number, "key": shown[0][:len(table.schema.key)], "rows": shown, "differs": differs, "matters": _matters(key, found),
+            "hangs": _hangs(key, found)}
+
+
+def _shown(table: Table, row: Sequence[Cell]) -> List[str]:
+    """The values of a row as texts, with their places."""
+    return [str(value) if places < 0 else str(matter.with_places(value, places)) for value, places in zip(row, table.places)]
+
+
+def _matters(key: Key, found: Sequence[Hanging]) -> str:
+    """What hangs on a key, in a few words."""
+    rows = sum(one.rows[key] for one in found)
+    widths = ["%s by %s" % (_question_text(one.question), one.widths[key]) for one in found if key in one.widths]
+    return "; ".join(([matter.counted(rows, "disputed answer")] if rows else []) + widths)
+
+
+def _hangs(key: Key, found: Sequence[Hanging]) -> List[Tuple[int, str]]:
+    """Some of the answers that hang on a key, each with the number of its question."""
+    shown: List[Tuple[int, str]] = []
+    for number, one in enumerate(found):
+        answers = one.answers.get(key, [])
+        shown += [(number, "(%s)" % ", ".join(map(str, answer))) for answer in answers[:_MOST_SHOWN]]
+        if one.rows[key] > _MOST_SHOWN:
+            shown.append((number, "and %d more" % (one.rows[key] - _MOST_SHOWN)))
+        if key in one.widths:
+            shown.append((number, "is narrower by %s at most" % one.widths[key]))
+    return shown
+
+
+def _question_text(question: Question) -> str:
+    return ("range " if question.is_range else "") + " ".join(question.query.split())
+
+
+def _told(one: Hanging) -> str:
+    """How a question was looked at, as a part of the page."""
+    said = "looked at for %s" % matter.counted(one.looked_at, "key") if one.question.is_range else matter.counted(one.disputed, "disputed answer")
+    if not one.question.is_range and one.looked_at < one.disputed:
+        said += ", of which %s were looked at, evenly chosen" % format(one.looked_at, ",")
+    if one.untold:
+        said += "; of %s it can't be told" % format(one.untold, ",")
+    return "<li><code>%s</code> <span class=\"quiet\">%s</span></li>" % (html.escape(_question_text(one.question)), html.escape(said))
+
+
+_BODY = """
+<header><h1>%(title)s</h1>
+<div class="row"><span id="left"></span><button type="button" id="undo">Undo</button><button type="button" class="main" id="save">Save decided.cqa</button>
+<button type="button" id="throwAway">Throw away</button></div>
+<div class="row"><label>Search <input id="search" type="search"></label><label>Table <select id="table"><option value="">all</option></select></label>
+<label>Differs in <select id="column"><option value="">any column</option></select></label>
+<label>Source <select id="source"><option value="">any</option></select></label>
+<label>Show <select id="state"><option value="all">all keys</option><option value="open">those left</option><option value="decided">those decided</option></select></label>
+<button type="button" id="takeSource">Take this source for all that are shown</button></div>
+<p id="said" role="status" aria-live="polite"></p><p id="kept" class="odd"></p></header>
+<main><nav id="keys" aria-label="Keys in conflict"><p id="above" class="quiet"></p><ul id="list"></ul><p id="below" class="quiet"></p></nav>
+<section id="card" aria-live="polite" aria-label="The key"></section></main>
+<p><b>Certain means undisputed, not confirmed:</b> of the rows of a key one is right, and the tables can't tell which. Pick it, say that none is, or leave the key.
+What you pick is kept in this browser until you throw it away, and saved as a script that deletes the other rows. Run it behind the files that made this page.</p>
+<p class="quiet">Keys: <kbd>j</kbd> <kbd>k</kbd> next and previous, <kbd>1</kbd> to <kbd>9</kbd> this row, <kbd>n</kbd> none of these, <kbd>x</kbd> leave it,
+<kbd>u</kbd> undo, <kbd>/</kbd> search, <kbd>Esc</kbd> out of a field, <kbd>s</kbd> save.</p>
+<h2>The questions</h2><ul>%(questions)s</ul>
+<details id="saved"><summary>The script so far</summary><textarea id="script" readonly aria-label="The script"></textarea></details>
+<p class="quiet">Made on %(date)s from %(title)s.</p>
+<script type="application/json" id="data">%(data)s</script>
+<script>%(code)s</script>
+"""
+
+
+def _read(name: str) -> str:
+    with open(os.path.join(os.path.dirname(os.path.abspath(__file__)), name), encoding="utf-8") as file:
+        return file.read()
+
+
+def _hash(text: str) -> str:
+    return "'sha256-%s'" % base64.b64encode(hashlib.sha256(text.encode("utf-8")).digest()).decode()
+
+
+def _page(title: str, data: Dict[str, Any], questions_told: Sequence[str]) -> str:
+    """The whole page: one script and one style are let run, by their hashes, and nothing comes from outside."""
+    code, style = _read("decide.js"), page.STYLE + _read("decide.css")
+    held = json.dumps(data, ensure_ascii=False, separators=(",", ":")).replace("<", "\\u003c").replace("\u2028", "\\u2028").replace("\u2029", "\\u2029")
+    told = "".join(questions_told) or '<li class="quiet">The files ask none, so keys stand in the order of their tables.</li>'
+    body = _BODY % {"title": page.text(title), "questions": told, "date": datetime.date.today().isoformat(), "data": held, "code": code}
+    policy = "default-src 'none'; script-src %s; style-src %s; base-uri 'none'; form-action 'none'" % (_hash(code), _hash(style))
+    return ('<!doctype html>\n<html lang="en">\n<head>\n<meta charset="utf-8">\n<meta http-equiv="Content-Security-Policy" content="%s">\n'
+            '<meta name="viewport" content="width=device-width, initial-scale=1">\n<title>%s</title>\n<style>%s</style>\n</head>\n<body>%s</body>\n</html>\n'
+            % (policy, html.escape("cqa: " + title), style, body))
