@@ -2,11 +2,14 @@
 
 from __future__ import annotations
 
+import importlib
+import importlib.util
 import sqlite3
 from typing import Any
 
 from ..errors import QueryRefused
 from .engine import Engine
+from .mariadb import MariaDB
 from .postgres import Postgres
 from .sqlite import SQLite
 
@@ -22,7 +25,9 @@ def connected(where: Any) -> Engine:
         return connected(_of_sqlalchemy(where))
     if driver in ("psycopg2", "psycopg"):
         return Postgres(where, False)
-    raise QueryRefused("%s.%s is no connection that is known: a path, a URL, or a connection of sqlite3, psycopg, psycopg2 or SQLAlchemy is "
+    if driver in ("pymysql", "MySQLdb"):
+        return MariaDB(where, False)
+    raise QueryRefused("%s.%s is no connection that is known: a path, a URL, or a connection of sqlite3, psycopg, psycopg2, PyMySQL, MySQLdb or SQLAlchemy is "
                        "wanted" % (driver, type(where).__name__))
 
 
@@ -43,4 +48,13 @@ def _opened(where: str) -> Engine:
         return SQLite.opened(rest[3:] if rest.startswith("///") else rest)
     if scheme in ("postgresql", "postgres"):
         return Postgres.opened(where)
+    if scheme in ("mysql", "mariadb"):
+        return MariaDB.opened(where)
     raise QueryRefused("%s: no database is known by this" % where)
+
+
+def heed_interrupts() -> None:
+    """Makes Ctrl-C end a statement that runs, for this whole process, where a driver would wait for its end."""
+    if importlib.util.find_spec("psycopg2") is not None:
+        extras = importlib.import_module("psycopg2.extras")
+        importlib.import_module("psycopg2.extensions").set_wait_callback(extras.wait_select)

@@ -16,7 +16,8 @@ class Engine(ABC):
     """One connection to a database.
 
     name: what it is called in messages. materialized: what stands before a step that is to be made once. bare: how a value is written
-    so that it has no type of a column any more. null_number: a NULL that is a number. takes_in_names: whether IN may stand before the name
+    so that it has no type of a column any more. null_number: a NULL that is a number. own_schema: where temporary tables
+    are. takes_in_names: whether IN may stand before the name
     of a table. reads_aliases: whether a condition may name what SELECT gives a name. has_quoted_texts: whether a name in quotes is a text
     where no column has it. using_converts: whether USING may change the type of its column. checks_types: whether
     the columns of the parts of a union have to be known. reads_capitals: whether names of tables that differ in capitals may be two. most_elements: of one FROM.
@@ -27,6 +28,7 @@ class Engine(ABC):
     materialized = "MATERIALIZED"
     bare = "%s"
     null_number = "NULL"
+    own_schema = "temp"
     takes_in_names = False
     reads_aliases = False
     has_quoted_texts = False
@@ -74,6 +76,14 @@ class Engine(ABC):
     @abstractmethod
     def described(self, sql: str, arguments: Mapping[str, Any]) -> List[Column]:
         """The columns of a query, which isn't run. Raises QueryRefused with the database's words where it can't be."""
+
+    def described_answers(self, sql: str, arguments: Mapping[str, Any]) -> List[Column]:
+        """As `described`, of a whole question."""
+        return self.described(sql, arguments)
+
+    def key_fault(self, column: Column) -> Optional[str]:
+        """Why a column can't be of a key, if it can't."""
+        return None
 
     def union_fault(self, branches: Sequence[Branch], parts: Sequence[Sequence[Column]], is_inner: bool) -> Optional[str]:
         """Why a union isn't taken, if it isn't. parts: the columns of its parts, where it stands within a query (is_inner)."""
@@ -141,8 +151,8 @@ class Engine(ABC):
         return self.number("SELECT count(*) FROM %s" % name)
 
     def drop_table(self, name: str) -> None:
-        """Ends a table of our own."""
-        self.run("DROP TABLE IF EXISTS %s" % name, {})
+        """Ends a temporary table of our own."""
+        self.run("DROP TABLE IF EXISTS %s.%s" % (self.own_schema, name), {})
 
     def size(self, relation: Relation) -> int:
         """About how many rows a table has."""

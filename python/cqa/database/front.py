@@ -22,7 +22,7 @@ from .keys import Keys, keyed_tables, named_relation, read_keys
 from .plan import Plan
 from .query import Branch, Column, Keyed
 from .reader import Reader
-from .tokens import scanned
+from .tokens import scanned, text_of
 
 NULL_KEYS = ("refuse", "own", "drop")
 
@@ -148,7 +148,7 @@ class _Question:
         keyed = keyed_tables(engine, keys)
         reader = Reader(engine, keyed, self.arguments)
         self.branches: List[Branch] = reader.read(tokens)
-        self.columns: List[Column] = engine.described(sql.strip().rstrip(";"), self.arguments)
+        self.columns: List[Column] = engine.described_answers(text_of(tokens), self.arguments)
         self.certain_tables = sorted(reader.certain)
         if is_strict and self.certain_tables:
             raise QueryRefused("no key is told of %s" % ", ".join(self.certain_tables))
@@ -156,6 +156,15 @@ class _Question:
             raise QueryRefused("%d columns, and a part with another number" % len(self.columns))
         self.plan = Plan(engine, self.branches, reader.names.used, len(self.columns), null_key)
         self.tables: List[Keyed] = self.plan.tables
+        for step in self.plan.join_steps().values():
+            self._check(engine, step.select)
+
+    def _check(self, engine: Engine, select: str) -> None:
+        """Refuses a question whose parts the database doesn't take put together, as where a name without its table's may mean two columns."""
+        try:
+            engine.described(select, self.arguments)
+        except QueryRefused as fault:
+            raise QueryRefused("%s: with the tables of its subqueries in one FROM this isn't taken; write the tables' names before columns" % fault) from None
 
 
 class Database:
@@ -353,13 +362,19 @@ def _conflict_rows(engine: Engine, table: Keyed) -> str:
     on = " AND ".join("d.cqa_k%d = t.%s" % (at, column.quoted) for at, column in enumerate(table.key))
     names = ", ".join("cqa_k%d" % at for at in range(len(table.key)))
     repeated = "SELECT %s FROM %s t GROUP BY %s HAVING count(*) > 1" % (keys, relation.name, keys)
-    differing = "SELECT %s FROM (WITH cqa_i(%s, cqa_is) AS (SELECT %s, %s FROM %s t JOIN cqa_k d ON %s) SELECT * FROM cqa_i) t GROUP BY %s HAVING count(DISTINCT cqa_is) > 1" % (
-        names, names, keys, made, relation.name, on, names)
-    return "WITH cqa_k(%s) AS (%s), cqa_d(%s) AS (%s) SELECT %s FROM %s t JOIN cqa_d d ON %s ORDER BY %s" % (
-        names, repeated, names, differing, ", ".join("t." + column.quoted for column in relation.columns), relation.name, on, keys)
+    rows = "SELECT %s, %s FROM %s t JOIN cqa_k d ON %s" % (keys, made, relation.name, on)
+    differing = "SELECT %s FROM cqa_i GROUP BY %s HAVING count(DISTINCT cqa_is) > 1" % (names, names)
+    whole = "SELECT %s FROM %s t JOIN cqa_d d ON %s ORDER BY %s" % (", ".join("t." + column.quoted for column in relation.columns), relation.name, on, keys)
+    return "WITH cqa_k(%s) AS (%s), cqa_i(%s, cqa_is) AS (%s), cqa_d(%s) AS (%s) %s" % (names, repeated, names, rows, names, differing, whole)
 
 
 def _is_row(values: Row, wanted: Row) -> bool:
-    """Whether an answer is the row that is asked for; what is told as a text is compared as it is shown."""
-    return all(value == one or isinstance(one, str) and not isinstance(value, str) and value is not None and shown(value) == one
-               for value, one in zip(values, wanted))
+    """Whether an answer is the row that is asked for."""
+    return all(map(_is_value, values, wanted))
+
+
+def _is_value(value: Any, wanted: Any) -> bool:
+    """Whether a value is the one that is asked for; what is told as a text is compared as it is shown, and no number is one."""
+    if value == wanted or value != value and wanted != wanted:
+        return True
+    return isinstance(wanted, str) and not isinstance(value, str) and value is not None and shown(value) == wanted

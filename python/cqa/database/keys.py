@@ -30,6 +30,9 @@ def keyed_tables(engine: Engine, keys: Keys) -> Dict[str, Keyed]:
             column = relation.column(name[0].value)
             if len(name) != 1 or column is None:
                 raise QueryRefused("key of %s: no column %s; it has %s" % (table, text, ", ".join(one.name for one in relation.columns)))
+            fault = engine.key_fault(column)
+            if fault:
+                raise QueryRefused("key of %s: %s: %s" % (table, text, fault))
             key.append(column)
         if not key or len(set(key)) < len(key):
             raise QueryRefused("key of %s: columns are wanted, each once" % table)

@@ -69,7 +69,7 @@ class Names:
         """Whether a query may read a table with a key: whether the name of one, or of what reads one, stands where a table may stand."""
         found = False
         for at, token in enumerate(query):
-            if token.is_name and not (at and query[at - 1].value in _RELATION_FOLLOWS_NOT):
+            if token.is_name and not _is_before_point(query, at) and not (at and query[at - 1].value in _RELATION_FOLLOWS_NOT):
                 known = env.get(token.value) if not (at and query[at - 1].is_mark(".")) else None
                 if known is None and token.value in self.hidden:
                     raise QueryRefused("%s reads a table that has a key, in a way that can't be followed: ask that table itself" % token.text)

@@ -48,6 +48,7 @@ class Postgres(DbApi):
     name = "PostgreSQL"
     lexicon = Lexicon(frozenset('"'), "ebxn", has_dollar_texts=True, folds_quoted=False, longest_name=63)
     null_number = "NULL::bigint"
+    own_schema = "pg_temp"
     most_elements = 1_000
 
     def __init__(self, connection: Any, is_own: bool) -> None:
@@ -283,9 +284,3 @@ class Postgres(DbApi):
     def cancel(self) -> None:
         with suppress(Exception):
             self.connection.cancel()
-
-    def heed_interrupts(self) -> None:
-        """Makes Ctrl-C end a statement that runs, for this whole process."""
-        if self.module.__name__ == "psycopg2":
-            extras = importlib.import_module("psycopg2.extras")
-            self.module.extensions.set_wait_callback(extras.wait_select)

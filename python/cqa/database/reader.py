@@ -171,10 +171,19 @@ class Reader:
         return "WITH %s " % ", ".join(texts) if texts else ""
 
     def note_certain(self, tokens: Sequence[Token], env: Env) -> None:
-        """Notes the tables that a text names."""
+        """Notes the tables that a text names in its FROMs."""
+        is_source = [False]
         for at, token in enumerate(tokens):
-            if at and (tokens[at - 1].is_word("from", "join") or tokens[at - 1].is_mark(",")) and token.is_name and token.value not in env:
-                if self.engine.columns_named(token.value):
+            if token.is_mark("("):
+                is_source.append(False)
+            elif token.is_mark(")") and len(is_source) > 1:
+                is_source.pop()
+            elif token.is_word("from", "join"):
+                is_source[-1] = True
+            elif token.is_word("where", "on", "using", "group", "having", "order", "union", "except", "intersect", "limit", "select"):
+                is_source[-1] = False
+            elif is_source[-1] and token.is_name and (tokens[at - 1].is_word("from", "join") or tokens[at - 1].is_mark(",")):
+                if token.value not in env and self.engine.columns_named(token.value):
                     self.certain.add(token.text)
 
     def check_parts(self, branches: Sequence[Branch], env: Env, what: str, is_inner: bool = True, around: Sequence[Element] = ()) -> None:

@@ -136,6 +136,8 @@ def _only(pattern: "re.Pattern[str]", text: str, at: int) -> "re.Match[str]":
 def _check_comment(piece: str, lexicon: Lexicon) -> None:
     if piece.startswith("/*") and "/*" in piece[2:]:
         raise QueryRefused("a comment within a comment: leave it out")
+    if piece.startswith("--") and lexicon.has_double_quoted_texts and piece[2:3] not in ("", " ", "\t"):
+        raise QueryRefused("a -- without a blank behind it: put a blank between the signs, or behind them")
 
 
 def _token(match: "re.Match[str]", text: str, space: str, lexicon: Lexicon) -> Token:
