@@ -427,11 +427,11 @@ def answers_over_repairs(db, keys, tables, blocks, queries):
     return rows, repairs
 
 
-def is_stored(kept, names, row):
+def is_stored(db, kept, names, row):
     """Whether a row that `against` tells is a stored one."""
     def same(name, told, stored):
         if isinstance(told, Decimal):
-            return str(told) == str(Decimal(stored).quantize(told)) == str(Decimal(stored)) or str(told) == stored
+            return stored is not None and (str(told) == stored or db.name == "mariadb" and told == Decimal(stored))
         if isinstance(told, float) and stored is not None and not isinstance(stored, str) or isinstance(stored, str) and isinstance(told, float) and name != "a":
             return told == float(stored) or told != told and stored != stored
         told = told.isoformat() if isinstance(told, datetime.date) else told
@@ -481,7 +481,7 @@ def check_against(db, asked, query, row, blocks, repairs, each, folds, where):
     fits = []
     for choice in repairs:
         chosen = [(table, found[at]) for (table, _, found), at in zip(blocks, choice)]
-        fits.append(all(any(table == one.table and is_stored(one, list(TABLES[table]), stored) for table, stored in chosen) for one in kept))
+        fits.append(all(any(table == one.table and is_stored(db, one, list(TABLES[table]), stored) for table, stored in chosen) for one in kept))
     if not kept or not any(fits) or any(db.same(row, folds) in answers for fit, answers in zip(fits, each) if fit):
         raise Differs("against %s tells %s\n%s" % (row, kept, where))
 

@@ -121,8 +121,7 @@ def _asked(database: Database, query: str, params: Dict[str, Any], told: argpars
 
 def _write_against(database: Database, query: str, params: Dict[str, Any], text: str, out: BinaryIO) -> None:
     """Writes the rows to keep, a line each as TABLE and JSON."""
-    row: List[str] = next(csv.reader([text]), [])
-    kept = database.against([value if value else None for value in row], query, **params)
+    kept = database.against(_row_of(database, query, params, next(csv.reader([text]), [])), query, **params)
     if kept is None:
         out.write(b"certain\n")
     for one in kept or ():
@@ -130,6 +129,15 @@ def _write_against(database: Database, query: str, params: Dict[str, Any], text:
         out.write(("keep %s %s\n" % (one.table, json.dumps(values, ensure_ascii=False))).encode())
     if kept is not None and not kept:
         out.write(b"no answer, whatever is kept\n")
+
+
+def _row_of(database: Database, query: str, params: Dict[str, Any], texts: List[str]) -> Sequence[Any]:
+    """The answer that is shown by these texts; the texts themselves where none is."""
+    with database.possible(query, **params) as answers:
+        found = [row for row in answers if [shown(value) for value in row] == texts]
+    if len(found) > 1:
+        raise QueryRefused("%d answers look like %s" % (len(found), ",".join(texts)))
+    return found[0] if found else texts
 
 
 def _write_rows(answers: Answers, form: Optional[str], out: BinaryIO) -> None:

@@ -17,7 +17,7 @@ from ..judging import judged
 from ..rows import csv_line
 from .answering import ByStatement, ByTables, Candidate, Evaluation, Kept
 from .connecting import connected
-from .engine import Engine, Row
+from .engine import Engine, Row, named
 from .keys import Keys, keyed_tables, named_relation, read_keys
 from .plan import Plan
 from .query import Branch, Column, Keyed
@@ -157,7 +157,7 @@ class _Question:
         self.plan = Plan(engine, self.branches, reader.names.used, len(self.columns), null_key)
         self.tables: List[Keyed] = self.plan.tables
         for step in self.plan.join_steps().values():
-            self._check(engine, step.select)
+            self._check(engine, named(step.columns, step.select, "cqa_w"))
 
     def _check(self, engine: Engine, select: str) -> None:
         """Refuses a question whose parts the database doesn't take put together, as where a name without its table's may mean two columns."""
@@ -374,7 +374,5 @@ def _is_row(values: Row, wanted: Row) -> bool:
 
 
 def _is_value(value: Any, wanted: Any) -> bool:
-    """Whether a value is the one that is asked for; what is told as a text is compared as it is shown, and no number is one."""
-    if value == wanted or value != value and wanted != wanted:
-        return True
-    return isinstance(wanted, str) and not isinstance(value, str) and value is not None and shown(value) == wanted
+    """Whether a value is the one that is asked for; what is no number is one alone."""
+    return bool(value == wanted) and isinstance(value, str) == isinstance(wanted, str) or value != value and wanted != wanted

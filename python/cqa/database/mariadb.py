@@ -144,7 +144,7 @@ class MariaDB(DbApi):
     def described_answers(self, sql: str, arguments: Mapping[str, Any]) -> List[Column]:
         cursor = self.cursor()
         try:
-            self.execute(cursor, self.description_text(sql), arguments)
+            self.execute(cursor, sql + "\nLIMIT 0", arguments)
             for column in cursor.description:
                 if str(column[1]) in _TEXT_CODES and (column[3] or 0) > self._sorted:
                     raise QueryRefused("the column %s may be longer than max_sort_length, %d bytes, and is compared by no more: write cast(.. as char(200))"

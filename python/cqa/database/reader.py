@@ -230,10 +230,11 @@ class Reader:
         for place, tokens in sources.ons:
             if self.names.reads_keyed(tokens, env):
                 raise QueryRefused("a subquery over a table with a key in ON: write it in WHERE")
-            element = next(element for element in elements if any(element is other for other in place))
+            at, element = next((at, element) for at, element in enumerate(elements) if any(element is other for other in place))
             self.note_certain(tokens, env)
+            near = [elements[:at + 1], elements[at + 1:], *outer]  # a name means a table that is joined already, if it can
             element.on += [*([Token("word", "AND", "and")] if element.on else []), mark("(", " "),
-                           *self.names.resolved(tokens, scope, sources.merged), mark(")")]
+                           *self.names.resolved(tokens, near, sources.merged), mark(")")]
         pieces = self._items(items, elements, scope, sources)
         self.note_certain(items, env)
         names = {item[-1].value for item in cut(items, ",") if len(item) > 1 and item[-1].is_name}
