@@ -174,12 +174,12 @@ class Sources:
             raise QueryRefused("%s reads a table that has a key, in a way that can't be followed: ask that table itself" % text_of(parts))
         if relation.definition is None:
             if relation.is_table:
-                reader.certain.add(relation.name)
+                reader.certain.add(text_of(parts))
             return [self._made(text_of(parts), alias, relation.columns)]
         inner = scanned(relation.definition, reader.engine.lexicon)
         reader.names.check_certain(inner, [])
         if not reader.names.may_read(inner, {}):
-            reader.certain.add(relation.name)
+            reader.certain.add(text_of(parts))
             return [self._made(text_of(parts), alias, relation.columns)]
         taken = [token.text for token in inner if token.is_name and token.value in reader.commons]
         if taken:
