@@ -33,11 +33,11 @@ def _metadata() -> str:
 def _modules() -> Dict[str, bytes]:
     """The package's files by their names in the wheel."""
     files: Dict[str, bytes] = {}
-    package = os.path.join(HERE, "cqa")
-    for name in sorted(os.listdir(package)):
-        if name.endswith(".py") or name == "py.typed":
-            with open(os.path.join(package, name), "rb") as file:
-                files["cqa/" + name] = file.read()
+    for package in ("cqa", "cqa/database"):
+        for name in sorted(os.listdir(os.path.join(HERE, package))):
+            if name.endswith(".py") or name == "py.typed":
+                with open(os.path.join(HERE, package, name), "rb") as file:
+                    files["%s/%s" % (package, name)] = file.read()
     return files
 
 
