@@ -109,6 +109,8 @@ class Refusals(DatabaseCase):
                 ("select id as cqa_b from customer", "names that begin with cqa_ are ours"),
                 ("select id from customer where id = 2 in (select cid from orders)", "= to the left of IN"),
                 ("insert into customer values (9, 'x', 'y', 'z')", "a query begins with SELECT or WITH"),
+                ("select id from customer where id in (table orders)", "TABLE in a query"),
+                ("select x from (select id, name from customer) x", "x as a whole row: name its columns"),
                 ("values (1)", "a query begins with SELECT or WITH"),
                 ("", "a query begins with SELECT or WITH"),
                 ("select id from customer c, orders c", "c stands twice in one FROM"),

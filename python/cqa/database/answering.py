@@ -57,6 +57,7 @@ class Evaluation(ABC):
 
     def kept_rows(self, choice: Mapping[int, int]) -> List[Kept]:
         """The rows that a choice of blocks keeps; of those that no used column tells apart any one."""
+        self._check_state()
         found: List[Kept] = []
         for number, table in enumerate(self.plan.watched):
             blocks = sorted(block for block in choice if block % len(self.plan.watched) == number)
@@ -71,6 +72,7 @@ class Evaluation(ABC):
 
     def keys_of(self, blocks: Sequence[int]) -> Dict[int, Tuple[str, Row]]:
         """The tables and keys of blocks."""
+        self._check_state()
         found: Dict[int, Tuple[str, Row]] = {}
         for number, table in enumerate(self.plan.watched):
             own = [block for block in blocks if block % len(self.plan.watched) == number]
@@ -80,6 +82,11 @@ class Evaluation(ABC):
                 for row in self._over_conflicts("SELECT cqa_b, %s FROM cqa_d%d WHERE cqa_b IN (%s)" % (keys, number, chosen)):
                     found.setdefault(row[0], (table.label, tuple(row[1:])))
         return found
+
+    def _check_state(self) -> None:
+        """Refuses what takes a second statement where it may see another state than the first."""
+        if not self.engine.has_one_state():
+            raise QueryRefused("the transaction is READ COMMITTED, so that a second statement may see other rows: REPEATABLE READ is wanted")
 
     def counts(self) -> Dict[str, int]:
         """The number of keys in conflict that were looked at, by table."""

@@ -113,6 +113,10 @@ class Engine(ABC):
     def can_make_tables(self) -> bool:
         """Whether temporary tables can be made in the transaction: it is our own, and they are gone with it."""
 
+    def has_one_state(self) -> bool:
+        """Whether several statements of the transaction see one state of the database."""
+        return True
+
     @contextmanager
     def room_for_tables(self, is_wanted: bool) -> Iterator[bool]:
         """Whether a question may make temporary tables: one at a time may."""

@@ -61,7 +61,8 @@ class Explained:
 class Answers:
     """Answers as they come: those that no conflict touches first. It is an iterator of tuples; `columns` has their names.
 
-    The transaction is open until all have come, or `close`.
+    The transaction is open until all have come, or `close`; it is rolled back then, and with it what is written meanwhile through a connection
+    that was handed in.
     """
 
     def __init__(self, columns: Sequence[str], rows: Iterator[Row], certain_tables: Sequence[str]) -> None:

@@ -11,7 +11,7 @@ from typing import Dict, List, Mapping, Optional, Sequence, Set, Tuple
 
 from ..errors import QueryRefused
 from .engine import Engine
-from .query import ColumnOf, Column, Element, Keyed, Leaf, NameOf, Piece, Scope
+from .query import Branch, ColumnOf, Column, Element, Keyed, Leaf, NameOf, Piece, Scope
 from .tokens import Token, asks, closing, cut, scanned, text_of, word
 
 #: Words that may stand before a bracket and are no functions, or whose function is the same for all databases.
@@ -229,6 +229,9 @@ class Names:
             self.used[element.source.table.relation.name].add(column)
 
     def _use_all(self, element: Element) -> None:
+        """All columns of an element are used. A derived table that reads tables with keys has further ones where it is printed."""
+        if isinstance(element.source, Branch):
+            raise QueryRefused("%s as a whole row: name its columns" % element.name)
         for column in element.columns:
             self.use(element, column)
 

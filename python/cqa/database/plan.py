@@ -46,9 +46,7 @@ class Plan:
         self.engine = engine
         self.null_key = null_key
         self.columns = ["cqa_c%d" % at for at in range(count)]
-        self.tables: List[Keyed] = []
-        for branch in branches:
-            self.tables += [leaf.table for leaf in branch.leaves() if leaf.table not in self.tables]
+        self.tables: List[Keyed] = list(dict.fromkeys(leaf.table for branch in branches for leaf in branch.leaves()))
         self.used = {table.relation.name: [column for column in table.relation.columns if column.name in used[table.relation.name]]
                      for table in self.tables}
         self.watched = [table for table in self.tables if not self._is_clean(table)]

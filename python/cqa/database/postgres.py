@@ -19,7 +19,7 @@ _EXACT = frozenset(["integer", "bigint", "smallint", "date", "boolean", "uuid", 
 #: Functions of the grammar, which the catalogue hasn't.
 _GRAMMAR = frozenset("coalesce greatest least nullif position trim normalize".split())
 #: Functions of the catalogue that read tables, or how a value is stored.
-_READING = re.compile(r"(table|query|cursor|schema|database)_to_xml.*|pg_column_size|pg_column_compression|ts_stat|ts_rewrite")
+_READING = re.compile(r"(table|query|cursor|schema|database)_to_xml.*|pg_stat_.*|pg_column_size|pg_column_compression|ts_stat|ts_rewrite")
 _PIECE = 5_000
 _IDLE, _IN_TRANSACTION = 0, 2
 
@@ -57,6 +57,7 @@ class Postgres(DbApi):
         self._faulty_operators: Optional[Set[str]] = None
         self._cursors = 0
         self._can_make = False
+        self._has_one_state = False
 
     @classmethod
     def opened(cls, url: str) -> "Postgres":
@@ -210,7 +211,8 @@ class Postgres(DbApi):
             settings["client_connection_check_interval"] = "2s"
         for name, value in settings.items():
             self.all("SELECT set_config(%s, %s, true)", name, value)
-        self._can_make = isolation in ("repeatable read", "serializable") and is_read_only == "off" and may
+        self._has_one_state = isolation in ("repeatable read", "serializable")
+        self._can_make = self._has_one_state and is_read_only == "off" and may
 
     def _end(self, begins: bool) -> None:
         if not begins:
@@ -223,6 +225,9 @@ class Postgres(DbApi):
 
     def can_make_tables(self) -> bool:
         return self._can_make
+
+    def has_one_state(self) -> bool:
+        return self._has_one_state
 
     @contextmanager
     def kept_apart(self) -> Iterator[None]:

@@ -72,6 +72,9 @@ class Reader:
         if not asks(tokens) or tokens[0].is_word("values"):
             raise QueryRefused("%s: a query begins with SELECT or WITH" % (tokens[0].text if tokens else "an empty text"))
         self._check_signs(tokens)
+        for at, token in enumerate(tokens):
+            if token.is_word("table") and not (at and tokens[at - 1].is_mark(".")):
+                raise QueryRefused("TABLE in a query: write SELECT * FROM")
         while is_wrapped(tokens):
             tokens = tokens[1:-1]
         try:
