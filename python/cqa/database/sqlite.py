@@ -6,7 +6,7 @@ import os
 import re
 import sqlite3
 import time
-from contextlib import contextmanager
+from contextlib import contextmanager, suppress
 from typing import Any, Dict, Iterator, List, Mapping, Optional, Sequence, Set, Tuple
 from urllib.parse import quote
 
@@ -54,8 +54,12 @@ class SQLite(Engine):
             raise DatabaseFault("%s: no such file" % path)
         try:
             connection = sqlite3.connect("file:%s?mode=ro" % quote(os.path.abspath(path)), uri=True, isolation_level=None)
+        except sqlite3.Error as fault:
+            raise DatabaseFault("%s: %s" % (path, fault)) from None
+        try:
             connection.execute("SELECT count(*) FROM sqlite_master").fetchone()
         except sqlite3.Error as fault:
+            connection.close()
             raise DatabaseFault("%s: %s" % (path, fault)) from None
         return cls(connection, True)
 
@@ -202,10 +206,11 @@ class SQLite(Engine):
         finally:
             self._depth -= 1
             self._is_own_transaction = self._is_own_transaction and not begins
-            if timeout is not None:
-                self.connection.set_progress_handler(None, 0)
-            if begins and self.connection.in_transaction:
-                self.connection.execute("ROLLBACK")
+            with suppress(sqlite3.ProgrammingError):  # a connection that is closed has no transaction
+                if timeout is not None:
+                    self.connection.set_progress_handler(None, 0)
+                if begins and self.connection.in_transaction:
+                    self.connection.execute("ROLLBACK")
 
     def can_make_tables(self) -> bool:
         # a temporary table would lose the collations of its columns
