@@ -1,5 +1,5 @@
 #!/usr/bin/env python3
-"""Runs the recipes of README.md, docs/LANGUAGE.md and docs/SQL.md as they stand there, over good lists and over broken ones.
+"""Runs the recipes of README.md, docs/LANGUAGE.md, docs/SQL.md and docs/DATABASE.md as they stand there, over good lists and over broken ones.
 
     tools/recipes.py
 
@@ -18,7 +18,7 @@ import sys
 import tempfile
 
 TOP = os.path.dirname(os.path.dirname(os.path.abspath(__file__)))
-PAGES = ("README.md", os.path.join("docs", "LANGUAGE.md"), os.path.join("docs", "SQL.md"))
+PAGES = ("README.md", os.path.join("docs", "LANGUAGE.md"), os.path.join("docs", "SQL.md"), os.path.join("docs", "DATABASE.md"))
 BLOCK = re.compile(r"^```(csv|sh|python)( [\w.]+)?\n(.*?)^```\n(?:\n```text\n(.*?)^```\n)?", re.M | re.S)
 EMPTY_KEY = "id,name,city,credit\n1,Ada Holm,Oslo,1\n,Nobody,Voss,2\n"
 OPEN_QUOTE = "id,name,city,credit\n1,\"Ada Holm,Oslo,1\n2,Bo Lind,Bergen,2\n"

@@ -33,11 +33,11 @@ def _metadata() -> str:
 def _modules() -> Dict[str, bytes]:
     """The package's files by their names in the wheel, and one that says in which repository they stood, whose program is built there."""
     files: Dict[str, bytes] = {}
-    package = os.path.join(HERE, "cqa")
-    for name in sorted(os.listdir(package)):
-        if name.endswith((".py", ".js", ".css")) or name == "py.typed":
-            with open(os.path.join(package, name), "rb") as file:
-                files["cqa/" + name] = file.read()
+    for package in ("cqa", "cqa/database"):
+        for name in sorted(os.listdir(os.path.join(HERE, package))):
+            if name.endswith((".py", ".js", ".css")) or name == "py.typed":
+                with open(os.path.join(HERE, package, name), "rb") as file:
+                    files["%s/%s" % (package, name)] = file.read()
     files["cqa/repository.txt"] = os.path.dirname(HERE).encode("utf-8", "surrogateescape")
     return files
 

@@ -11,15 +11,17 @@ The answers are those of the program `cqa`, which is proved; this package starts
 
 from .answers import Attack, Classification, Explanation, Group, Range, UnionClassification
 from .conflicts import Conflicts, Disputed
-from .errors import (Closed, CqaError, Ended, InputTooLong, LoadFault, LoadWarning, MemoryRanOut, NoSuchName, NotBuilt, ReadingFailed, Refused,
-                     ReplyFault, ScaleFault, ScaleWarning, StateFault, UnknownStatement, WordsUnreadable, WritingFailed)
+from .database import Answers, Blocking, Database, Explained, Kept
+from .errors import (Closed, CqaError, DatabaseFault, Ended, InputTooLong, LoadFault, LoadWarning, MemoryRanOut, NoSuchName, NotBuilt,
+                     QueryRefused, ReadingFailed, Refused, ReplyFault, ScaleFault, ScaleWarning, StateFault, UnknownStatement,
+                     WordsUnreadable, WritingFailed)
 from .rows import Rows
 from .scripts import Schema
 from .session import Session
 
 __all__ = [
-    "Attack", "Classification", "Closed", "Conflicts", "CqaError", "Disputed", "Ended", "Explanation", "Group", "InputTooLong",
-    "LoadFault", "LoadWarning", "MemoryRanOut", "NoSuchName", "NotBuilt", "Range", "ReadingFailed", "Refused", "ReplyFault",
-    "Rows", "ScaleFault", "ScaleWarning", "Schema", "Session", "StateFault", "UnionClassification", "UnknownStatement", "WordsUnreadable",
-    "WritingFailed",
+    "Answers", "Attack", "Blocking", "Classification", "Closed", "Conflicts", "CqaError", "Database", "DatabaseFault", "Disputed",
+    "Ended", "Explained", "Explanation", "Group", "InputTooLong", "Kept", "LoadFault", "LoadWarning", "MemoryRanOut",
+    "NoSuchName", "NotBuilt", "QueryRefused", "Range", "ReadingFailed", "Refused", "ReplyFault", "Rows", "ScaleFault", "ScaleWarning", "Schema",
+    "Session", "StateFault", "UnionClassification", "UnknownStatement", "WordsUnreadable", "WritingFailed",
 ]

@@ -7,7 +7,7 @@ import sys
 from functools import partial
 from typing import Callable, Dict, Sequence
 
-from . import deciding, helping, load_command, looking, report, running, shell, trying
+from . import asking, deciding, helping, load_command, looking, report, running, shell, trying
 from .ending import ended_with
 
 COMMANDS: Dict[str, Callable[[Sequence[str]], int]] = {
@@ -15,6 +15,7 @@ COMMANDS: Dict[str, Callable[[Sequence[str]], int]] = {
     "run": running.main,
     "csv": looking.csv_main,
     "conflicts": looking.conflicts_main,
+    "ask": asking.main,
     "report": report.main,
     "decide": deciding.main,
     "shell": shell.main,

@@ -14,7 +14,7 @@ import warnings
 from typing import Any, Dict, List, NamedTuple, Sequence, Tuple
 
 from . import matter, page
-from .conflicts import Conflicts, conflicts_of
+from .conflicts import Columns, Conflicts
 from .errors import Refused, ScaleWarning
 from .files import standard_output, written
 from .matter import Blocks, Hanging, Key, Question
@@ -80,12 +80,13 @@ def tables_of(session: Session, source: str = "") -> List[Table]:
 
 
 def _table(session: Session, schema: Schema, source: str) -> Table:
-    names = schema.key + [name for name in schema.columns if name not in schema.key]
+    columns = Columns(schema.columns, schema.key, source if source in schema.columns else session.source_of(schema.table), {})
+    names = [columns.names[at] for at in columns.order]
     lines = session.tell("possible select %s from %s;" % (", ".join(names), schema.table))
-    found = session.source_of(schema) if source not in schema.columns else source
-    conflicts = conflicts_of(schema.table, names, schema.key, found or None, map(row_of, lines[:-1]))
+    conflicts = Conflicts(schema.table, columns)
+    conflicts.add(columns.in_order(row_of(line)) for line in lines[:-1])
     told = stated(schema.table, names, [line.encode("utf-8") for line in lines])
-    return Table(schema, names, [session.places.get((schema.table, name), -1) for name in names], found, told, conflicts)
+    return Table(schema, names, [session.places.get((schema.table, name), -1) for name in names], conflicts.source or "", told, conflicts)
 
 
 def _key(table: Table, values: Sequence[Cell]) -> Key:

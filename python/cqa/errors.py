@@ -136,6 +136,14 @@ class NoSuchName(CqaError, KeyError):
     __str__ = Exception.__str__
 
 
+class QueryRefused(CqaError):
+    """SQL, a key or an option that isn't accepted over a database of the user's own; nothing was answered."""
+
+
+class DatabaseFault(CqaError):
+    """A database answered with a fault, or the connection to it was lost."""
+
+
 class StateFault(CqaError):
     """A kept state isn't whole, or decisions were saved for other rows than those that are there."""
 

@@ -393,11 +393,6 @@ class Session:
         """The places of columns that hold numbers with places, by table and column."""
         return self._marks.places
 
-    def source_of(self, schema: Schema) -> str:
-        """The column of sources with which a table was loaded, or nothing."""
-        source = self._marks.sources.get(schema.table, "")
-        return source if source in schema.columns and source not in schema.key else ""
-
     def _there(self, table: str) -> Schema:
         schema = self.schema(table)
         if schema is None:

@@ -1,0 +1,60 @@
+"""From what a user names or hands in to a connection."""
+
+from __future__ import annotations
+
+import importlib
+import importlib.util
+import sqlite3
+from typing import Any
+
+from ..errors import QueryRefused
+from .engine import Engine
+from .mariadb import MariaDB
+from .postgres import Postgres
+from .sqlite import SQLite
+
+
+def connected(where: Any) -> Engine:
+    """The engine of a path, a URL or a connection. Raises QueryRefused where none is known for it, DatabaseFault where it can't be had."""
+    if isinstance(where, str):
+        return _opened(where)
+    if isinstance(where, sqlite3.Connection):
+        return SQLite(where, False)
+    driver = type(where).__module__.split(".")[0]
+    if driver == "sqlalchemy":
+        return connected(_of_sqlalchemy(where))
+    if driver in ("psycopg2", "psycopg"):
+        return Postgres(where, False)
+    if driver in ("pymysql", "MySQLdb"):
+        return MariaDB(where, False)
+    raise QueryRefused("%s.%s is no connection that is known: a path, a URL, or a connection of sqlite3, psycopg, psycopg2, PyMySQL, MySQLdb or SQLAlchemy is "
+                       "wanted" % (driver, type(where).__name__))
+
+
+def _of_sqlalchemy(where: Any) -> Any:
+    """The connection of a driver below an engine or a connection of SQLAlchemy."""
+    held = where.raw_connection() if hasattr(where, "raw_connection") else getattr(where, "connection", None)
+    for name in ("driver_connection", "dbapi_connection", "connection"):
+        if getattr(held, name, None) is not None:
+            return getattr(held, name)
+    raise QueryRefused("%s of SQLAlchemy is no engine and no connection" % type(where).__name__)
+
+
+def _opened(where: str) -> Engine:
+    scheme, sign, rest = where.partition(":")
+    if not sign or len(scheme) == 1 or "/" in scheme or "\\" in scheme:
+        return SQLite.opened(where)
+    if scheme in ("sqlite", "sqlite3"):
+        return SQLite.opened(rest[3:] if rest.startswith("///") else rest)
+    if scheme in ("postgresql", "postgres"):
+        return Postgres.opened(where)
+    if scheme in ("mysql", "mariadb"):
+        return MariaDB.opened(where)
+    raise QueryRefused("%s: no database is known by this" % where)
+
+
+def heed_interrupts() -> None:
+    """Makes Ctrl-C end a statement that runs, for this whole process, where a driver would wait for its end."""
+    if importlib.util.find_spec("psycopg2") is not None:
+        extras = importlib.import_module("psycopg2.extras")
+        importlib.import_module("psycopg2.extensions").set_wait_callback(extras.wait_select)
