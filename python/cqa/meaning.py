@@ -165,15 +165,16 @@ class _Meant:
         """A number that stands for one of a column: with a point it is scaled, and without one it is told."""
         if not places:
             return
-        value = Decimal(token.word)
-        if "." not in token.word:
+        whole, point, rest = token.word.partition(".")
+        if not point:
+            value = Decimal(whole)
             if value:
                 self._notes.append("%s is stored times %s: %s stands for %s here; write %s for %s" % (
                     name, factor(places), token.word, shown_number(value.scaleb(-places), places), shown_number(value, places), token.word))
-        elif value != round(value, places):
+        elif len(rest.rstrip("0")) > places:
             self._wrong.append(Fault(token.begin, "%s has %s, and %s has more" % (name, _said_places(places), token.word)))
         else:
-            self._edits.append(Edit(token.begin, token.end, str(int(value.scaleb(places)))))
+            self._edits.append(Edit(token.begin, token.end, str(int(whole + rest.rstrip("0").ljust(places, "0")))))
 
     def _moment(self, token: Token, name: str, form: str, operator: str) -> None:
         """A text that stands for a time of a column."""
@@ -215,10 +216,11 @@ class _Meant:
                 self._literal(token, column.word, self._places(column.word, first.tables), self._time(column.word, first.tables))
 
     def _insert(self, statement: Said) -> None:
-        """The rows of an insert. One with a line that would end a block is written by `load` or by a dump, as it is stored."""
+        """The rows of an insert. One with a line that would end a block may be written by `load` or by a dump, as it is stored, so nothing
+        is said of its numbers without a point."""
         table = "".join(statement.parts[0].tables)
         schema = self._schemas().get(table)
-        if schema is None or ENDS_BLOCK.search(self._text):
+        if schema is None:
             return
         marked = [(self._marks.places.get((table, name), 0), self._marks.times.get((table, name), ""), "%s.%s" % (table, name)) for name in schema.columns]
         if not any(places or time for places, time, _ in marked):
@@ -228,7 +230,7 @@ class _Meant:
             for token, (places, time, name) in zip(row, marked):
                 self._literal(token, name, places, time)
         of_column = {note.partition(" ")[0]: note for note in reversed(self._notes[told:])}
-        self._notes[told:] = list(of_column.values())
+        self._notes[told:] = [] if ENDS_BLOCK.search(self._text) else list(of_column.values())
 
     def _literal(self, token: Token, name: str, places: int, time: str) -> None:
         if token.is_number:
