@@ -8,15 +8,17 @@ import re
 import threading
 from typing import IO, Dict, Iterator, List, NamedTuple, Optional, Sequence, Set, Union, cast
 
-from .replies import END_LINE, END_STATEMENT, reply_lines
+from .replies import END_LINE, END_STATEMENT, reply_lines, row_of
 from .running import QUERY_VERBS
-from .scripts import Schema, aggregate_of, schema_of, statements, verb_of, without_comments
+from .scripts import Schema, aggregate_of, query_parts, row_text, schema_of, statements, verb_of, without_comments
 
 _SET_KEY = re.compile(r"\s*alter\s+table\s+(\w+)\s+set\s+primary\s+key\s*\(([^)]*)\)")
+_AGAINST = re.compile(r"\s*against\s+row\s*(\((?:[^')]|'[^']*')*\))\s*for\b(.*)", re.S)
+
 #: Statements that change no table and no setting.
 _QUIET = (*QUERY_VERBS, "show", "dump", "")
 _GUESSES = {"ask": "0 rows\n", "possible": "0 rows\n", "disputed": "0 rows\n", "classify": "class first-order\n", "explain": "no plan\n",
-            "prove": "no plan\n", "against": "certain\n", "range": "least none\ngreatest none\n"}
+            "prove": "no plan\n", "range": "least none\ngreatest none\n"}
 
 
 class Reply(NamedTuple):
@@ -122,6 +124,7 @@ class StandIn:
             statement = self._waiting.pop(0)
         told = self._course.told(statement)
         self._told.append(told)
+        self._heed(told)
         known = self._known.get(told.key)
         if known is None:
             self._is_guessing = True
@@ -129,21 +132,42 @@ class StandIn:
         self._status = known.status
         return known.text
 
-    def _guess(self, told: Told) -> bytes:
-        """A reply that leads on: whatever is asked of a reply's form, with no rows."""
-        text = without_comments(told.statement.decode("utf-8", "replace")).rstrip().rstrip(";")
-        if told.verb == "create":
-            made = schema_of(text)
-            if made is not None:
-                self._schemas[made.table] = made
-        changed = _SET_KEY.match(text) if told.verb == "alter" else None
+    def _heed(self, told: Told) -> None:
+        """Keeps the columns and the key of a table that is made or changed."""
+        if told.verb not in ("create", "alter"):
+            return
+        text = _plain(told)
+        made = schema_of(text) if told.verb == "create" else None
+        if made is not None:
+            self._schemas[made.table] = made
+        changed = _SET_KEY.match(text)
         if changed and changed[1] in self._schemas:
             self._schemas[changed[1]] = self._schemas[changed[1]]._replace(key=re.findall(r"\w+", changed[2]))
+
+    def _guess(self, told: Told) -> bytes:
+        """A reply that leads on: whatever is asked of a reply's form, with no rows."""
+        text = _plain(told) if told.verb in ("show", "range", "against") else ""
         if text.split() == ["show", "tables"]:
             return "".join(map(_shown, self._schemas.values())).encode() + b"%d tables\n" % len(self._schemas)
         if told.verb == "range" and aggregate_of(text).group:
             return b"0 groups\n"
+        if told.verb == "against":
+            kept = self._kept(text)
+            return (kept + "%d rows\n" % kept.count("\n")).encode() if kept else b"certain\n"
         return _GUESSES.get(told.verb, "inserted 0\n").encode()
+
+    def _kept(self, text: str) -> str:
+        """The lines of rows that may stand against a row: of each table whose key a query selects, one with the key that the row has,
+        since it is the key's other rows that are looked at next."""
+        found = _AGAINST.match(text)
+        parts = query_parts(found[2]) if found else None
+        if found is None or parts is None:
+            return ""
+        values = dict(zip((column.rpartition(".")[2] for column in parts.columns), row_of(found[1])))
+        schemas = [self._schemas[table] for table in parts.tables if table in self._schemas]
+        rows = [(schema.table, tuple(values.get(name, 0 if kind == "int" else "") for name, kind in schema.columns.items()))
+                for schema in schemas if all(name in values for name in schema.key)]
+        return "".join("keep %s %s\n" % (table, row_text(row)) for table, row in rows)
 
 
 def learnt(told: Sequence[Told], written: bytes, status: int) -> Known:
@@ -162,6 +186,11 @@ def learnt(told: Sequence[Told], written: bytes, status: int) -> Known:
 def script_of(told: Sequence[Told]) -> bytes:
     """The input of a run over statements, whose output `learnt` reads."""
     return b"".join(one.statement + END_STATEMENT for one in told)
+
+
+def _plain(told: Told) -> str:
+    """A statement's text, without comments and without the `;` at its end."""
+    return without_comments(told.statement.decode("utf-8", "replace")).rstrip().rstrip(";")
 
 
 def _shown(schema: Schema) -> str:
