@@ -9,7 +9,6 @@ import shutil
 import signal
 import subprocess
 import sys
-import time
 import unittest
 from contextlib import redirect_stderr
 from typing import Dict, List, Tuple
@@ -173,6 +172,13 @@ class BuildTest(KitCase):
         return subprocess.Popen([self.path("top/cqa"), "build"], env={**self.environment, **more}, stdin=subprocess.DEVNULL, stdout=subprocess.PIPE,
                                 stderr=subprocess.PIPE, start_new_session=True)
 
+    def begun(self, pause: str) -> "subprocess.Popen[bytes]":
+        """A build that has begun, each of whose crates takes so many seconds."""
+        build = self.build(PAUSE=pause)
+        assert build.stderr is not None
+        build.stderr.readline()
+        return build
+
     def ended(self, build: "subprocess.Popen[bytes]") -> Tuple[int, str]:
         """How a build ended."""
         out, told = build.communicate(timeout=60)
@@ -189,8 +195,7 @@ class BuildTest(KitCase):
         self.assertRegex(told, r"(?s)building: 2 crates.*1 of 2: low proved; \d+ %.*built: .*cqa_cli, 0\.0 MB, in 0 min .* as no commit proves it\n")
 
     def test_two_builds_at_once(self) -> None:
-        first = self.build(PAUSE="1")
-        time.sleep(0.7)
+        first = self.begun("4")
         second = self.build()
         self.assertEqual(self.ended(first)[0], 0)
         status, told = self.ended(second)
@@ -199,8 +204,7 @@ class BuildTest(KitCase):
 
     def test_an_interrupted_build_leaves_nothing(self) -> None:
         for number, wanted in ((signal.SIGINT, 130), (signal.SIGTERM, 143)):
-            build = self.build(PAUSE="5")
-            time.sleep(1)
+            build = self.begun("5")
             os.kill(build.pid, number)
             self.assertEqual((self.ended(build)[0], self.is_built()), (wanted, False))
 
