@@ -27,7 +27,7 @@ BUILDS = """#!/bin/sh
 if [ "$1" = version ]; then echo kit; exit; fi
 for name in low cqa_cli; do
   if [ -e "$ROOM/refuses" ]; then echo "rt: $name NOT PROVED"; echo "rt: FAILED: $name"; exit 1; fi
-  sleep "${PAUSE-0}"
+  while [ -n "$WAITS" ] && [ ! -e "$ROOM/go" ]; do sleep 0.1; done
   echo "rt: $name proved"
 done
 mkdir -p crates/cqa_cli/out
@@ -59,6 +59,11 @@ for name in sorted(name for name in os.listdir(folder) if not name.endswith(".ar
 """
 
 LISTS = "create table t (id int, name text, source text, primary key (id));\ncopy t;\n1,a,x\n1,b,y\n2,c,x\n\\.\n"
+
+
+def _heeds_interrupts() -> None:
+    """In the background of a shell, Ctrl-C is ignored by what is started there."""
+    signal.signal(signal.SIGINT, signal.SIG_DFL)
 
 
 class KitCase(Case):
@@ -170,14 +175,17 @@ class BuildTest(KitCase):
     def build(self, **more: str) -> "subprocess.Popen[bytes]":
         """Begins a build."""
         return subprocess.Popen([self.path("top/cqa"), "build"], env={**self.environment, **more}, stdin=subprocess.DEVNULL, stdout=subprocess.PIPE,
-                                stderr=subprocess.PIPE, start_new_session=True)
+                                stderr=subprocess.PIPE, bufsize=0, start_new_session=True, preexec_fn=_heeds_interrupts)
 
-    def begun(self, pause: str) -> "subprocess.Popen[bytes]":
-        """A build that has begun, each of whose crates takes so many seconds."""
-        build = self.build(PAUSE=pause)
+    def told_until(self, build: "subprocess.Popen[bytes]", words: str) -> str:
+        """What a build tells up to a line with these words."""
         assert build.stderr is not None
-        build.stderr.readline()
-        return build
+        told = ""
+        while words not in told:
+            line = build.stderr.readline().decode()
+            self.assertNotEqual(line, "", told)
+            told += line
+        return told
 
     def ended(self, build: "subprocess.Popen[bytes]") -> Tuple[int, str]:
         """How a build ended."""
@@ -195,16 +203,20 @@ class BuildTest(KitCase):
         self.assertRegex(told, r"(?s)building: 2 crates.*1 of 2: low proved; \d+ %.*built: .*cqa_cli, 0\.0 MB, in 0 min .* as no commit proves it\n")
 
     def test_two_builds_at_once(self) -> None:
-        first = self.begun("4")
+        first = self.build(WAITS="1")
+        begun = self.told_until(first, "building:")
         second = self.build()
-        self.assertEqual(self.ended(first)[0], 0)
+        begun_second = self.told_until(second, "another build")
+        self.file("go", "")
+        status, told = self.ended(first)
+        self.assertEqual((status, "built: " in begun + told), (0, True))
         status, told = self.ended(second)
-        self.assertEqual(status, 0)
-        self.assertRegex(told, "(?s)another build .* waits.*the other build has built")
+        self.assertEqual((status, "the other build has built" in begun_second + told), (0, True))
 
     def test_an_interrupted_build_leaves_nothing(self) -> None:
         for number, wanted in ((signal.SIGINT, 130), (signal.SIGTERM, 143)):
-            build = self.begun("5")
+            build = self.build(WAITS="1")
+            self.told_until(build, "building:")
             os.kill(build.pid, number)
             self.assertEqual((self.ended(build)[0], self.is_built()), (wanted, False))
 
