@@ -176,7 +176,7 @@ class Conflicts:
 
     def _repr_html_(self) -> str:
         """A table for a notebook, with each text escaped."""
-        rows = [(", ".join(map(str, block.key)), name, _values_text(values))
+        rows = [(", ".join(map(str, block.key)), name, values_text(values))
                 for block in self.disputed for name, values in block.values.items()]
         return Rows((", ".join(self.key), "column", "values"), rows)._repr_html_()
 
@@ -203,7 +203,8 @@ def _values(rows: Sequence[Row], at: int, source: Optional[int]) -> Dict[str, Di
     return values
 
 
-def _values_text(values: Dict[Cell, List[Cell]]) -> str:
+def values_text(values: Dict[Cell, List[Cell]]) -> str:
+    """Values with their sources, in a line."""
     return " | ".join("%s%s" % (_shown(str(value)), " (%s)" % ", ".join(_shown(str(source)) for source in sources) if sources else "")
                       for value, sources in values.items())
 

@@ -14,9 +14,9 @@ import warnings
 from typing import Any, Dict, List, NamedTuple, Sequence, Tuple
 
 from . import matter, page
-from .conflicts import Columns, Conflicts
+from .conflicts import Columns, Conflicts, Disputed, values_text
 from .errors import Refused, ScaleWarning
-from .files import standard_output, written
+from .files import check_output, standard_output, written
 from .matter import Blocks, Hanging, Key, Question
 from .replies import row_of
 from .report import questions_of
@@ -58,6 +58,7 @@ def main(arguments: Sequence[str]) -> int:
 
 def _main(told: argparse.Namespace) -> int:
     answers: List[Answer] = []
+    check_output(told.output, told.files)
     session = loaded(told.files, answers)
     if session is None:
         print("cqa decide: nothing is written", file=sys.stderr)
@@ -104,18 +105,54 @@ def all_hanging(session: Session, asked: Sequence[Question], keys: Sequence[Key]
     return found
 
 
+class Ranked(NamedTuple):
+    """The keys in conflict of tables in the order in which it helps to decide them, each with its table's place and what of it differs,
+    and what hangs on them."""
+
+    tables: List[Table]
+    keys: Dict[Key, Tuple[int, Disputed]]
+    found: List[Hanging]
+
+
+def ranked_keys(session: Session, asked: Sequence[Question], source: str = "", names: Sequence[str] = ()) -> Ranked:
+    """The conflicts of tables, of all where none is named, ranked by what hangs on them for some questions."""
+    tables = [table for table in tables_of(session, source) if not names or table.schema.table in names]
+    blocks = {_key(table, one.key): (number, one) for number, table in enumerate(tables) for one in table.conflicts.disputed}
+    found = all_hanging(session, asked, list(blocks))
+    return Ranked(tables, {key: blocks[key] for key in matter.ranked(list(blocks), found)}, found)
+
+
+def ranked_text(ranked: Ranked) -> str:
+    """A line for each key with what hangs on it and its values; those on which no question hangs stand last, under a line of their own."""
+    lines: List[str] = []
+    is_last = False
+    for key, (number, block) in ranked.keys.items():
+        if not is_last and not matter.matters(key, ranked.found):
+            lines.append("no question hangs on these:\n")
+            is_last = True
+        table = ranked.tables[number]
+        places = dict(zip(table.names, table.places))
+        values = ["%s: %s" % (name, values_text({_shown_value(value, places[name]): sources for value, sources in of_column.items()}))
+                  for name, of_column in block.values.items()]
+        shown = ", ".join(_shown(table, block.rows[0])[:len(table.schema.key)])
+        lines.append("%s %s  %s%s\n" % (table.schema.table, shown, _matters(key, ranked.found) + "  " if not is_last else "", "   ".join(values)))
+    return "".join(lines)
+
+
+def ranked_notes(ranked: Ranked) -> List[str]:
+    """What is to know of how the questions were looked at."""
+    return ["%s: %s" % (_question_text(one.question), _looked_at(one)) for one in ranked.found]
+
+
 def decide_page(session: Session, asked: Sequence[Question], title: str, source: str = "") -> str:
     """The page of a session's conflicts, ranked by what hangs on them for some questions."""
-    tables = tables_of(session, source)
-    blocks = {_key(table, one.key): (number, one.rows) for number, table in enumerate(tables) for one in table.conflicts.disputed}
-    found = all_hanging(session, asked, list(blocks))
-    ranked = matter.ranked(list(blocks), found)
+    ranked = ranked_keys(session, asked, source)
     data = {
-        "tables": [_table_data(table) for table in tables],
-        "questions": [_question_text(one.question) for one in found],
-        "keys": [_key_data(tables[blocks[key][0]], blocks[key], key, found) for key in ranked],
+        "tables": [_table_data(table) for table in ranked.tables],
+        "questions": [_question_text(one.question) for one in ranked.found],
+        "keys": [_key_data(ranked.tables[number], number, block, key, ranked.found) for key, (number, block) in ranked.keys.items()],
     }
-    return _page(title, data, [_told(one) for one in found])
+    return _page(title, data, [_told(one) for one in ranked.found])
 
 
 def _table_data(table: Table) -> Dict[str, Any]:
@@ -124,17 +161,20 @@ def _table_data(table: Table) -> Dict[str, Any]:
             "source": table.names.index(table.source) if table.source else None, "told": table.told.text()}
 
 
-def _key_data(table: Table, block: Tuple[int, List[Tuple[Cell, ...]]], key: Key, found: Sequence[Hanging]) -> Dict[str, Any]:
-    number, rows = block
-    shown = [_shown(table, row) for row in rows]
-    differs = [at for at, name in enumerate(table.names) if name != table.source and len({row[at] for row in rows}) > 1]
+def _key_data(table: Table, number: int, block: Disputed, key: Key, found: Sequence[Hanging]) -> Dict[str, Any]:
+    shown = [_shown(table, row) for row in block.rows]
+    differs = [table.names.index(name) for name in block.values]
     return {"table": number, "key": shown[0][:len(table.schema.key)], "rows": shown, "differs": differs, "matters": _matters(key, found),
             "hangs": _hangs(key, found)}
 
 
 def _shown(table: Table, row: Sequence[Cell]) -> List[str]:
     """The values of a row as texts, with their places."""
-    return [str(value) if places < 0 else str(matter.with_places(value, places)) for value, places in zip(row, table.places)]
+    return [str(_shown_value(value, places)) for value, places in zip(row, table.places)]
+
+
+def _shown_value(value: Cell, places: int) -> Cell:
+    return value if places < 0 else matter.with_places(value, places)
 
 
 def _matters(key: Key, found: Sequence[Hanging]) -> str:
@@ -161,14 +201,19 @@ def _question_text(question: Question) -> str:
     return ("range " if question.is_range else "") + " ".join(question.query.split())
 
 
-def _told(one: Hanging) -> str:
-    """How a question was looked at, as a part of the page."""
+def _looked_at(one: Hanging) -> str:
+    """How a question was looked at."""
     said = "looked at for %s" % matter.counted(one.looked_at, "key") if one.question.is_range else matter.counted(one.disputed, "disputed answer")
     if not one.question.is_range and one.looked_at < one.disputed:
         said += ", of which %s were looked at, evenly chosen" % format(one.looked_at, ",")
     if one.untold:
         said += "; of %s it can't be told" % format(one.untold, ",")
-    return "<li><code>%s</code> <span class=\"quiet\">%s</span></li>" % (html.escape(_question_text(one.question)), html.escape(said))
+    return said
+
+
+def _told(one: Hanging) -> str:
+    """How a question was looked at, as a part of the page."""
+    return "<li><code>%s</code> <span class=\"quiet\">%s</span></li>" % (html.escape(_question_text(one.question)), html.escape(_looked_at(one)))
 
 
 _BODY = """

@@ -5,11 +5,16 @@ from __future__ import annotations
 import argparse
 import re
 import sys
+import warnings
 from typing import List, Optional, Sequence
 
 from .conflicts import Conflicts
+from .deciding import questions, ranked_keys, ranked_notes, ranked_text
+from .errors import ScaleWarning
 from .files import check_output, standard_output, written
+from .matter import listed
 from .running import Answer, loaded
+from .session import Session
 from .words import told as words_told
 
 _NAME = re.compile(r"[A-Za-z_][A-Za-z0-9_]*")
@@ -57,12 +62,14 @@ def conflicts_main(arguments: Sequence[str]) -> int:
                        help="a word that may be a table's name is one, as customer; another is a script, as b.cqa or ./customer")
     words.add_argument("--source", metavar="COLUMN", help="the column of sources, which is no conflict: else that which load made, if it did")
     words.add_argument("--csv", action="store_true", help="the values in conflict of one table as CSV, for a spreadsheet")
+    words.add_argument("--matter", action="store_true", help="the keys in the order of how many disputed answers of the files' questions hang on them")
     words.add_argument("-o", "--output", metavar="FILE", help="the file to write, in place of standard output")
     told = words_told(words, arguments)
     tables = [word for word in told.others if _NAME.fullmatch(word)]
     files = [told.first] + [word for word in told.others if not _NAME.fullmatch(word)]
     check_output(told.output, files)
-    session = loaded(files)
+    answers: List[Answer] = []
+    session = loaded(files, answers if told.matter else None)
     if session is None:
         print("cqa conflicts: nothing is written", file=sys.stderr)
         return 1
@@ -73,6 +80,9 @@ def conflicts_main(arguments: Sequence[str]) -> int:
             lacking = "no table %s in %s" % (missing[0], ", ".join(files)) if missing else "%s makes no table" % ", ".join(files)
             print("cqa conflicts: %s" % lacking, file=sys.stderr)
             return 1
+        if told.matter:
+            _write(_by_matter(session, answers, told.source or "", tables, told.csv), told.output)
+            return 0
         if told.csv and len(tables or there) > 1:
             print("cqa conflicts: --csv wants one table: %s" % ", ".join(tables or there), file=sys.stderr)
             return 1
@@ -86,6 +96,16 @@ def conflicts_main(arguments: Sequence[str]) -> int:
             return 1
     _write(text, told.output)
     return 0
+
+
+def _by_matter(session: Session, answers: Sequence[Answer], source: str, tables: Sequence[str], is_csv: bool) -> str:
+    """The keys in conflict in the order in which it helps to decide them, as lines or as CSV."""
+    with warnings.catch_warnings():
+        warnings.simplefilter("ignore", ScaleWarning)  # values are handled as they are stored
+        ranked = ranked_keys(session, questions(answers), source, tables)
+    for note in ranked_notes(ranked):
+        print("cqa conflicts: %s" % note, file=sys.stderr)
+    return listed(list(ranked.keys), ranked.found).csv_text() if is_csv else ranked_text(ranked)
 
 
 def _tell_source(found: Conflicts) -> None:

@@ -245,9 +245,9 @@ def matters(key: Key, found: Sequence[Hanging]) -> bool:
     return any(one.rows[key] or key in one.widths for one in found)
 
 
-def listed(blocks: Blocks, keys: Sequence[Key], found: Sequence[Hanging]) -> Rows:
-    """A row for each key: its table, its key's values with a comma between two, how many disputed rows hang on it, and how much it
-    widens each range."""
+def listed(keys: Sequence[Key], found: Sequence[Hanging]) -> Rows:
+    """A row for each key: its table, its key's values with a comma between two, how many disputed rows hang on it, and by how much
+    deciding it narrows each range at most."""
     ranges = [one for one in found if one.question.is_range]
     names = ("table", "key", "disputed rows", *("range " + one.question.query for one in ranges))
     return Rows(names, [(table, ", ".join(map(str, values)), sum(one.rows[(table, values)] for one in found),

@@ -355,6 +355,18 @@ class Session:
         """
         return self.conflicts_of([table], source)[0]
 
+    def matter(self, queries: Sequence[str]) -> Rows:
+        """The keys in conflict of all tables in the order in which it helps to decide them: those first on which most disputed rows of
+        some queries hang, and by which ranges (`range count from ..`) are widest. A row for each key: its table, its values, how many
+        disputed rows hang on it, and by how much deciding it narrows each range at most. Questions that are refused are left out."""
+        from .deciding import ranked_keys  # which stands on this module
+        from .matter import Question, listed
+
+        with warnings.catch_warnings():
+            warnings.simplefilter("ignore", ScaleWarning)  # values are handled as they are stored
+            ranked = ranked_keys(self, [Question(re.sub(r"^\s*range\s", "", query), bool(re.match(r"\s*range\s", query))) for query in queries])
+        return listed(list(ranked.keys), ranked.found)
+
     def conflicts_of(self, tables: Sequence[str], source: Optional[str] = None) -> List[Conflicts]:
         """As `conflicts`, of several tables by one pass over what is stored. source: where it is told, each has such a column."""
         found = {table: Conflicts(table, self._columns(self._there(table), source)) for table in tables}

@@ -70,6 +70,23 @@ class Command(ProgramCase):
         self.assertIn("range sum credit from customer by 1.00", page)
 
 
+    def test_conflicts_in_the_order_in_which_they_matter(self) -> None:
+        self.file("load.cqa", LOAD)
+        self.file("ask.cqa", ASK)
+        status, text, told = self.command("conflicts", "load.cqa", "ask.cqa", "--matter")
+        self.assertEqual(0, status, told)
+        lines = text.split("\n")[:-1]
+        self.assertEqual(["customer 1", "customer 3", "customer 4", "door 11"], sorted(" ".join(line.split()[:2]) for line in lines))
+        self.assertIn("customer 1  1 disputed answer  city: Bergen (shop) | Oslo (crm)", lines)
+        self.assertEqual("customer 4  range sum credit from customer by 1.00  credit: 1.00 (crm) | 2.00 (shop)", lines[-1])
+        self.file("one.cqa", "ask select name from customer where city = 'Oslo' and id = 1;\n")
+        status, text, _ = self.command("conflicts", "load.cqa", "one.cqa", "--matter", "--csv")
+        self.assertEqual("table,key,disputed rows\ncustomer,1,1\ncustomer,3,0\ncustomer,4,0\ndoor,11,0\n", text)
+        with cqa.Session() as session:
+            session.run(LOAD)
+            rows = session.matter(["select name from customer where city = 'Oslo' and id = 1", "range sum credit from customer"])
+            self.assertEqual([("customer", "1"), ("customer", "4")], [row[:2] for row in rows[:2]])
+
     def test_decisions_for_other_rows_are_refused(self) -> None:
         self.file("load.cqa", LOAD)
         with cqa.Session() as session:
