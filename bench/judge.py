@@ -92,7 +92,7 @@ def same_lists(n):
     yield from group([2, 2], [[(1, 1), (2, 1)]] * n)
 
 
-LOADS = [(small_groups, 250_000), (one_group, 250_000), (cycle_groups, 2_500), (wide_block, 250_000), (long_list, 250_000), (same_lists, 250_000)]
+LOADS = [(small_groups, 250_000), (one_group, 250_000), (cycle_groups, 1_500), (wide_block, 250_000), (long_list, 250_000), (same_lists, 250_000)]
 ASKED = {cycle_groups: cycle_script}
 
 
@@ -146,7 +146,7 @@ def main():
                 continue
             for n in (round(least * words.scale), round(4 * least * words.scale)):
                 ours, theirs, asked = times(load, n, words.program, peer, words.repeat, room)
-                name = (load.__doc__ or "").split(".")[0]
+                name = (load.__doc__ or "").rstrip(".")
                 ratio = "%.2f" % (ours[0] / theirs[0]) if ours and theirs and theirs[0] else ""
                 print("| %s | %s | %s | %s | %s | %s |" % (name, format(n, ","), shown(ours), shown(theirs), ratio, shown(asked) if asked else ""), flush=True)
 
