@@ -18,7 +18,8 @@ HERE = os.path.dirname(os.path.abspath(__file__))
 TOP = os.path.dirname(HERE)
 TABLE = os.path.join(HERE, "build_times.txt")
 HEAD = """# Seconds of processor time in which each crate was proved from nothing, in the last build that was measured. The table is made by
-# tools/build_times.py, and says only how far a build is: no proof rests on it.
+# tools/build_times.py, and says only how far a build is: no proof rests on it. A crate that no measured build proved has an
+# estimate by its size.
 """
 
 

@@ -126,22 +126,41 @@ def is_fresh():
     return all(os.stat(path).st_mtime <= built for path in sources)
 
 
+@contextlib.contextmanager
+def kit_gate(folder):
+    """The kit's gate, begun in a folder; it is ended, and with it what it started, where it isn't waited for."""
+    environment = dict(os.environ, TMPDIR=os.path.join(folder, "tmp"))
+    endings = {signal.SIGINT, signal.SIGTERM, signal.SIGHUP}
+    before = signal.pthread_sigmask(signal.SIG_BLOCK, endings)  # so that none comes between the start and what ends it
+    process = None
+    try:
+        process = subprocess.Popen(["rt", "ci"], cwd=folder, env=environment, stdin=subprocess.DEVNULL, stdout=subprocess.PIPE, stderr=subprocess.STDOUT,
+                                   start_new_session=True, preexec_fn=lambda: signal.pthread_sigmask(signal.SIG_SETMASK, before))
+        signal.pthread_sigmask(signal.SIG_SETMASK, before)
+        yield process
+    finally:
+        signal.pthread_sigmask(signal.SIG_SETMASK, before)
+        if process is not None and process.poll() is None:
+            process.kill()
+            process.wait()
+
+
 def proved(folder, crates, teller, log):
     """Runs the kit's gate in the folder of the copy. Raises NotBuilt where something isn't proved."""
-    environment = dict(os.environ, TMPDIR=os.path.join(folder, "tmp"))
-    process = subprocess.Popen(["rt", "ci"], cwd=folder, env=environment, stdin=subprocess.DEVNULL, stdout=subprocess.PIPE,
-                               stderr=subprocess.STDOUT, start_new_session=True)
     progress = Progress(crates, measured(TIMES), len(os.sched_getaffinity(0)))
-    is_over = threading.Event()
+    is_over, one_at_a_time = threading.Event(), threading.Lock()
 
     def watch():
         while not is_over.wait(2):
-            progress.sample(time.monotonic(), task_times(process.pid))
-            teller.show("%s; %s" % (progress.text(), ", ".join(progress.running)))
+            times = task_times(process.pid)
+            with one_at_a_time:
+                progress.sample(time.monotonic(), times)
+                text = "%s; %s" % (progress.text(), ", ".join(progress.running))
+            teller.show(text)
 
-    threading.Thread(target=watch, daemon=True).start()
     refused, done = [], 0
-    try:
+    with kit_gate(folder) as process:
+        threading.Thread(target=watch, daemon=True).start()
         for line in process.stdout:
             log.write(line)
             found = SAID.match(line.decode("utf-8", "replace").rstrip("\n"))
@@ -153,17 +172,14 @@ def proved(folder, crates, teller, log):
                 teller.say("%s %s" % (name, how))
                 continue
             done += 1
-            seconds = progress.end(name, is_kept=how == "is kept")
+            with one_at_a_time:
+                seconds, text = progress.end(name, is_kept=how == "is kept"), progress.text()
             if seconds:
                 log.write(b"cqa: %s took %.1f s of processor time\n" % (name.encode(), seconds))
             log.flush()
-            teller.say("%d of %d: %s %s; %s" % (done, len(crates), name, how, progress.text()))
+            teller.say("%d of %d: %s %s; %s" % (done, len(crates), name, how, text))
         status = process.wait()
-    finally:
         is_over.set()
-        if process.poll() is None:
-            process.kill()  # what it started ends with it
-            process.wait()
     if status < 0:
         raise NotBuilt("the build was ended by signal %d, most likely for memory; what was proved so far is kept for the next one" % -status)
     if status:

@@ -80,6 +80,7 @@ class Progress:
         self._ended, self._kept = set(), set()
         self._past = collections.deque()              # when, the time of all so far, how many ran, and how many there is room for
         self._chains = self._chain_lengths()
+        self._told = 0.0
 
     @property
     def running(self):
@@ -108,12 +109,13 @@ class Progress:
         return 0.0 if is_kept else self._of(name)
 
     def part(self):
-        """How much of the work is done, from 0 to 1: what was kept is none of it."""
+        """How much of the work is done, from 0 to 1, and never less than was told before; what was kept is none of it."""
         speed = self._speed()
         whole = sum(cost for name, cost in self._costs.items() if name not in self._kept)
         done = sum(self._costs[name] for name in self._ended)
         done += sum(min(self._of(name) / speed, 0.95 * self._costs[name]) for name in self.running if name not in self._ended)
-        return done / whole if whole else 1.0
+        self._told = max(self._told, done / whole if whole else 1.0)
+        return self._told
 
     def left(self):
         """About how many seconds are left: what is left is gone through as the kit does, longest chain first."""

@@ -9,6 +9,7 @@ import shutil
 import signal
 import subprocess
 import sys
+import time
 import unittest
 from contextlib import redirect_stderr
 from typing import Dict, List, Tuple
@@ -27,7 +28,7 @@ BUILDS = """#!/bin/sh
 if [ "$1" = version ]; then echo kit; exit; fi
 for name in low cqa_cli; do
   if [ -e "$ROOM/refuses" ]; then echo "rt: $name NOT PROVED"; echo "rt: FAILED: $name"; exit 1; fi
-  while [ -n "$WAITS" ] && [ ! -e "$ROOM/go" ]; do sleep 0.1; done
+  while [ -n "$WAITS" ] && [ ! -e "$ROOM/go" ]; do echo >>"$ROOM/waiting"; sleep 0.1; done
   echo "rt: $name proved"
 done
 mkdir -p crates/cqa_cli/out
@@ -193,6 +194,14 @@ class BuildTest(KitCase):
         self.assertEqual((out, self.left()), (b"", []))
         return build.returncode, told.decode()
 
+    def is_waiting(self) -> bool:
+        """Whether a kit still runs that waits."""
+        if not os.path.exists(self.path("waiting")):
+            return False
+        size = os.path.getsize(self.path("waiting"))
+        time.sleep(1)
+        return os.path.getsize(self.path("waiting")) > size
+
     def is_built(self) -> bool:
         """Whether the program is in its place."""
         return os.path.exists(self.path("top/crates/cqa_cli/out/cqa_cli"))
@@ -219,6 +228,7 @@ class BuildTest(KitCase):
             self.told_until(build, "building:")
             os.kill(build.pid, number)
             self.assertEqual((self.ended(build)[0], self.is_built()), (wanted, False))
+            self.assertFalse(self.is_waiting())
 
     def test_builds_that_fail(self) -> None:
         self.file("refuses", "")
