@@ -1,5 +1,5 @@
-//! The cases that are scripts, in this folder: `TOPIC.cqa`, and for `check` `TOPIC.lrat` or `TOPIC.rewriting`, and beside each
-//! the output that it has to give, `TOPIC.out`.
+//! The cases that are scripts, in this folder: `TOPIC.cqa`, for `check` `TOPIC.lrat` or `TOPIC.rewriting`, for `judge`
+//! `TOPIC.groups`, and beside each the output that it has to give, `TOPIC.out`.
 
 use crate::comparing::ends_as_wanted;
 use crate::running::Case;
@@ -19,6 +19,9 @@ fn word_for(kind: &str) -> Option<&'static str> {
     }
     if kind == "lrat" || kind == "rewriting" {
         return Some("check");
+    }
+    if kind == "groups" {
+        return Some("judge");
     }
     None
 }
@@ -78,10 +81,12 @@ fn has_script(rt: &HostRuntime, topic: &str) -> io::Result<bool> {
     let script = format!(in alloc; "{topic}.cqa")?;
     let proof = format!(in alloc; "{topic}.lrat")?;
     let certificate = format!(in alloc; "{topic}.rewriting")?;
+    let groups = format!(in alloc; "{topic}.groups")?;
     Ok(
         fs::exists(rt, script.as_str())?
             || fs::exists(rt, proof.as_str())?
-            || fs::exists(rt, certificate.as_str())?,
+            || fs::exists(rt, certificate.as_str())?
+            || fs::exists(rt, groups.as_str())?,
     )
 }
 
