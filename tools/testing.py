@@ -30,6 +30,10 @@ def read(path):
         return file.read()
 
 
+#: The words by which cases are run, by the kinds of their files; the others are checked.
+WORDS = {".cqa": "run", ".groups": "judge"}
+
+
 def cases():
     """Each script with its place, its run, the status and the output that are wanted, or the output's second line; a status that the
     output doesn't tell is None."""
@@ -39,7 +43,7 @@ def cases():
             continue
         wanted = read(os.path.join(DATA, topic + ".out"))
         status = int(any(line.startswith((b"error ", b"refused ")) for line in wanted.split(b"\n")))
-        yield "script_tests/data/" + name, Run(("run" if kind == ".cqa" else "check",), read(os.path.join(DATA, name))), status, wanted, False
+        yield "script_tests/data/" + name, Run((WORDS.get(kind, "check"),), read(os.path.join(DATA, name))), status, wanted, False
     for where, script, word, expected in blocks.scripts():
         yield where, Run((word,), script.encode()), None, expected.encode(), False
     for script, expected in blocks.statements():
