@@ -7,6 +7,7 @@ deciding the key otherwise gives the row in some choice of the others.
 from __future__ import annotations
 
 import contextlib
+import re
 from collections import Counter
 from dataclasses import dataclass, field
 from decimal import Decimal
@@ -34,14 +35,20 @@ class Question(NamedTuple):
     is_range: bool
 
 
+def question_of(text: str) -> Question:
+    """A question as it is written: a query, or `range` and what stands behind it."""
+    found = re.match(r"\s*range\s", text)
+    return Question((text[found.end():] if found else text).strip().rstrip(";"), found is not None)
+
+
 @dataclass
 class Hanging:
     """What hangs on the keys in conflict for one question.
 
-    rows: how many disputed rows hang on each key. answers: these rows, as they are stored. widths: by how much deciding the key can narrow the range at most. disputed: how
-    many rows of the question are disputed. looked_at: of how many of them, or of how many keys, it was told. untold: of how many rows
-    it can't be told, since they have too many witnesses, or since their search is spent, or since no rows of two parts stand against
-    them together.
+    rows: how many disputed rows hang on each key. answers: these rows, as they are stored. widths: by how much deciding the key can narrow
+    the range at most. disputed: how many rows of the question are disputed. looked_at: of how many of them, or of how many keys, it was
+    told. untold: of how many rows it can't be told, since they have too many witnesses, or since their search is spent, or since no rows
+    of two parts stand against them together.
     """
 
     question: Question
