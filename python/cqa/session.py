@@ -14,7 +14,7 @@ from functools import partial
 from types import TracebackType
 from typing import Dict, Iterable, Iterator, List, Mapping, NamedTuple, Optional, Sequence, Tuple, Type, Union, overload
 
-from . import answers
+from . import answers, underway
 from .answers import Classification, Explanation, Group, Kept, Range, UnionClassification
 from .blocks import create_text, rows_script
 from .columns import is_in_range, scaled
@@ -411,7 +411,7 @@ class Session:
             if table in found:
                 found[table].add(rows)
 
-        with many_rows():
+        with many_rows(), underway.saying(lambda: "%s rows" % format(sum(one.rows for one in found.values()), ",")):
             left = self._child.read(b"dump;", partial(read_dump, take=take)) & found.keys()
         for table in left:
             columns = self._columns(self._there(table), source)
