@@ -30,8 +30,8 @@ HAS_BROWSER = webdriver is not None and os.path.exists(BROWSER) and os.path.exis
 LOAD = """-- cqa: column customer.credit has 2 places
 -- cqa: column customer.source has the sources
 create table customer (id int, name text, city text, credit int, source text, primary key (id));
-insert into customer values (1, 'Ada', 'Oslo', 12.50, 'crm'), (1, 'Ada', 'Bergen', 1250, 'shop'), (2, 'Bo', 'Bergen', 500, 'crm');
-insert into customer values (3, 'Cy', 'Oslo', 700, 'crm'), (3, 'Cy', 'Voss', 700, 'shop'), (4, 'Dag', 'Oslo', 100, 'crm'), (4, 'Dag', 'Oslo', 200, 'shop');
+insert into customer values (1, 'Ada', 'Oslo', 12.50, 'crm'), (1, 'Ada', 'Bergen', 12.50, 'shop'), (2, 'Bo', 'Bergen', 5.00, 'crm');
+insert into customer values (3, 'Cy', 'Oslo', 7.00, 'crm'), (3, 'Cy', 'Voss', 7.00, 'shop'), (4, 'Dag', 'Oslo', 1.00, 'crm'), (4, 'Dag', 'Oslo', 2.00, 'shop');
 create table door (room int, customer int, primary key (room));
 insert into door values (10, 1), (11, 3), (11, 4);
 """
@@ -73,7 +73,8 @@ class Command(ProgramCase):
         self.file("load.cqa", LOAD)
         self.file("decided.cqa", "prefer customer where source = 'crm';\n")
         status, rows, said = self.command("csv", "load.cqa", "decided.cqa", "--table", "customer", "-o", "clean.csv")
-        self.assertEqual((0, "", ""), (status, rows, said))
+        self.assertEqual((0, ""), (status, rows), said)
+        self.assertNotIn("in conflict", said)
         self.assertEqual("id,name,city,credit\n1,Ada,Oslo,12.50\n2,Bo,Bergen,5.00\n3,Cy,Oslo,7.00\n4,Dag,Oslo,1.00\n", self.read("clean.csv"))
 
     def test_the_rows_of_a_table_in_conflict_are_refused(self) -> None:
