@@ -2,12 +2,13 @@
 
 from __future__ import annotations
 
+import contextlib
 import io
 import sys
 from functools import partial
 from typing import Callable, Dict, Sequence
 
-from . import asking, deciding, helping, load_command, looking, report, running, shell, trying
+from . import asking, deciding, helping, load_command, looking, report, running, shell, trying, underway
 from .ending import ended_with
 
 COMMANDS: Dict[str, Callable[[Sequence[str]], int]] = {
@@ -23,6 +24,9 @@ COMMANDS: Dict[str, Callable[[Sequence[str]], int]] = {
     "try": trying.main,
 }
 
+#: Those that may take long without a word; the others are talked with, or say themselves how far they are.
+LONG = ("load", "run", "csv", "conflicts", "report", "decide")
+
 
 def main(words: Sequence[str]) -> int:
     """Runs a command and gives its status; a fault is one line on standard error, and the status isn't 0."""
@@ -37,7 +41,8 @@ def main(words: Sequence[str]) -> int:
     if command is None:
         print(said_commands, file=sys.stderr)
         return 2
-    return ended_with(words[0], partial(command, words[1:]))
+    with underway.shown(words[0]) if words[0] in LONG else contextlib.nullcontext():
+        return ended_with(words[0], partial(command, words[1:]))
 
 
 if __name__ == "__main__":

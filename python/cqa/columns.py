@@ -28,7 +28,7 @@ _DROP = ", so that --missing keep doesn't fit the column: --missing drop leaves 
 _CSV_FAULTS = (
     ("unexpected end of data", "a quote is opened here and never closed"),
     ("expected after", "something stands behind a closing quote"),
-    ("field larger than field limit", "a quote is opened here and not closed within 131,072 letters"),
+    ("field larger than field limit", "a field has more than 131,072 letters, as where a quote is opened and not closed"),
     ("NUL", "a zero byte; is the list UTF-16?"),
 )
 

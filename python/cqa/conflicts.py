@@ -4,20 +4,20 @@ from __future__ import annotations
 
 import contextlib
 import gc
-import re
-from collections import Counter
+from collections import Counter, defaultdict
 from decimal import Decimal
-from itertools import groupby
+from itertools import chain, groupby
 from operator import itemgetter
 from typing import Callable, Dict, Iterable, Iterator, List, NamedTuple, Optional, Sequence, Tuple
 
 from .rows import Cell, Rows
-from .unseen import seen
+from .unseen import is_seen, seen
 
 #: A row as a dump writes it: a text for each column.
 Row = Sequence[str]
 
-_PLAIN = re.compile(r"[!-\[\]-~](?:[ -\[\]-~]*[!-\[\]-~])?")
+#: So many blocks are looked at together: whether their values stand for themselves in a line.
+_TOGETHER = 256
 
 
 class Disputed(NamedTuple):
@@ -46,7 +46,7 @@ class Columns:
         self.source = self.names.index(source) if source in kinds and source not in key else None
         self.compared = [at for at in range(len(self.names)) if at not in self.key and at != self.source]
         self.order = self.key + [at for at in range(len(self.names)) if at not in self.key]
-        self.are_scaled = [name in places for name in kinds]
+        self.points = [places.get(name, 0) for name in kinds]
         self.readers = [_reader(kind, places.get(name, -1)) for name, kind in kinds.items()]
 
     def read(self, row: Row, places: Iterable[int]) -> Tuple[Cell, ...]:
@@ -120,26 +120,27 @@ class Conflicts:
     def add(self, rows: Iterable[Row]) -> None:
         """Counts rows, which come in the order of their keys."""
         columns, source = self._columns, self._columns.source
-        alone: "Counter[str]" = Counter()
-        all_rows: "Counter[str]" = Counter()
-        counts = [0] * len(columns.names)
+        alone: Dict[str, int] = defaultdict(int)
+        all_rows: Dict[str, int] = defaultdict(int)
+        before = len(self._blocks)
         for _, of_key in groupby(rows, key=itemgetter(*columns.key)):
             block = list(of_key)
             self.keys += 1
             self.rows += len(block)
             if source is not None:
-                sources = [row[source] for row in block]
-                all_rows.update(sources)
-                if len(block) == 1 or len(set(sources)) == 1:
-                    alone[sources[0]] += 1
+                first = block[0][source]
+                is_alone = True
+                for row in block:
+                    all_rows[row[source]] += 1
+                    is_alone = is_alone and row[source] == first
+                if is_alone:
+                    alone[first] += 1
             if len(block) > 1:
                 differing = columns.differing(block)
                 if differing:
                     self._blocks.append((differing, block))
-                    for at in differing:
-                        counts[at] += 1
-        for at in columns.compared:
-            self.by_column[columns.names[at]] += counts[at]
+        for at, count in Counter(chain.from_iterable(differing for differing, _ in self._blocks[before:])).items():
+            self.by_column[columns.names[at]] += count
         self.by_source.update((name, (all_rows[name], alone[name])) for name in sorted(all_rows))
 
     def __len__(self) -> int:
@@ -154,14 +155,25 @@ class Conflicts:
         found = ["%s %d" % (name, count) for name, count in self.by_column.items() if count]
         shown = ": " + ", ".join(found) if found else ""
         yield "%s: %d key%s, %d in conflict%s\n" % (self.table, self.keys, "" if self.keys == 1 else "s", len(self), shown)
-        columns = self._columns
-        readers = [reader if is_scaled else None for reader, is_scaled in zip(columns.readers, columns.are_scaled)]
-        for differing, rows in self._blocks:
-            first = rows[0]
-            key = ", ".join([_text(first[at], readers[at]) for at in columns.key])
-            parts = ["%s: %s" % (columns.names[at], " | ".join([
-                _text(value, readers[at]) + (" (%s)" % ", ".join(map(_shown, sources)) if sources else "")
-                for value, sources in _values(rows, at, columns.source).items()])) for at in differing]
+        for begin in range(0, len(self._blocks), _TOGETHER):
+            yield from self._lines(self._blocks[begin:begin + _TOGETHER])
+
+    def _lines(self, blocks: Sequence[Tuple[List[int], List[Row]]]) -> Iterator[str]:
+        """The lines of some blocks."""
+        columns, source = self._columns, self._columns.source
+        show = _plain if _are_plain(blocks) else _shown
+        shows = [_pointed(places) if places else show for places in columns.points]
+        heads = [name + ": " for name in columns.names]
+        for differing, rows in blocks:
+            key = ", ".join([shows[at](rows[0][at]) for at in columns.key])
+            if len(rows) == 2:  # then each value has one source
+                one, other = rows
+                ends = ["", ""] if source is None else [" (%s)" % show(one[source]), " (%s)" % show(other[source])]
+                parts = [heads[at] + shows[at](one[at]) + ends[0] + " | " + shows[at](other[at]) + ends[1] for at in differing]
+            else:
+                parts = [heads[at] + " | ".join([
+                    shows[at](value) + (" (%s)" % ", ".join(map(show, sources)) if sources else "")
+                    for value, sources in _values(rows, at, source).items()]) for at in differing]
             yield "%s  %s\n" % (key, "   ".join(parts))
 
     def listed(self) -> Rows:
@@ -209,12 +221,28 @@ def values_text(values: Dict[Cell, List[Cell]]) -> str:
                       for value, sources in values.items())
 
 
-def _text(value: str, reader: Optional[Callable[[str], Cell]]) -> str:
-    return _shown(value if reader is None else str(reader(value)))
+def _are_plain(blocks: Sequence[Tuple[List[int], List[Row]]]) -> bool:
+    """Whether all values of some blocks stand for themselves in a line, the empty one left out."""
+    values = list(chain.from_iterable(chain.from_iterable(rows for _, rows in blocks)))
+    joined = "\n".join(["", *values, ""])
+    return (joined.count("\n") == len(values) + 1 and "\\" not in joined and " \n" not in joined and "\n " not in joined
+            and is_seen(joined.replace("\n", "")))
+
+
+def _plain(value: str) -> str:
+    """A value that stands for itself in a line, or is empty."""
+    return value or "''"
+
+
+def _pointed(places: int) -> Callable[[str], str]:
+    """How an integer of a dump is shown with so many places."""
+    def text(value: str) -> str:
+        sign, digits = ("-", value[1:]) if value[0] == "-" else ("", value)
+        digits = digits.rjust(places + 1, "0")
+        return "%s%s.%s" % (sign, digits[:-places], digits[-places:])
+    return text
 
 
 def _shown(value: str) -> str:
     """A value in a line of its own: line feeds are written as \\n, and what nobody sees is marked."""
-    if _PLAIN.fullmatch(value):
-        return value
     return "''" if value == "" else seen(value.replace("\\", "\\\\").replace("\n", "\\n").replace("\r", "\\r"))

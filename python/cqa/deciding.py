@@ -11,7 +11,7 @@ import json
 import os
 import sys
 import warnings
-from typing import Any, Dict, List, NamedTuple, Sequence, Tuple
+from typing import Any, Callable, Dict, List, NamedTuple, Optional, Sequence, Tuple
 
 from . import matter, page
 from .conflicts import Columns, Conflicts, Disputed, values_text
@@ -26,6 +26,9 @@ from .scripts import Schema
 from .session import Session
 from .stated import Stated, stated
 from .words import told as words_told
+
+#: What is done about a question that is refused.
+LeftOut = Callable[[Refused, Question], None]
 
 #: Of each question so many answers are shown that hang on a key.
 _MOST_SHOWN = 5
@@ -94,14 +97,21 @@ def _key(table: Table, values: Sequence[Cell]) -> Key:
     return table.schema.table, tuple(values)
 
 
-def all_hanging(session: Session, asked: Sequence[Question], keys: Sequence[Key]) -> List[Hanging]:
-    """What hangs on the keys for each question that isn't refused over the tables as they are."""
+def note_left_out(refused: Refused, question: Question) -> None:
+    """Says on standard error that a question is left out."""
+    print("note: %s: %s" % (question.query, refused.line), file=sys.stderr)
+
+
+def all_hanging(session: Session, asked: Sequence[Question], keys: Sequence[Key], left_out: Optional[LeftOut]) -> List[Hanging]:
+    """What hangs on the keys for each question. left_out: told of each one that is refused over the tables as they are; else that is raised."""
     found = []
     for question in asked:
         try:
             found.append(matter.hanging(session, question, keys))
         except Refused as refused:
-            print("note: %s: %s" % (question.query, refused.line), file=sys.stderr)
+            if left_out is None:
+                raise
+            left_out(refused, question)
     return found
 
 
@@ -114,11 +124,11 @@ class Ranked(NamedTuple):
     found: List[Hanging]
 
 
-def ranked_keys(session: Session, asked: Sequence[Question], source: str = "", names: Sequence[str] = ()) -> Ranked:
-    """The conflicts of tables, of all where none is named, ranked by what hangs on them for some questions."""
+def ranked_keys(session: Session, asked: Sequence[Question], source: str = "", names: Sequence[str] = (), left_out: Optional[LeftOut] = None) -> Ranked:
+    """The conflicts of tables, of all where none is named, ranked by what hangs on them for some questions. left_out: as of `all_hanging`."""
     tables = [table for table in tables_of(session, source) if not names or table.schema.table in names]
     blocks = {_key(table, one.key): (number, one) for number, table in enumerate(tables) for one in table.conflicts.disputed}
-    found = all_hanging(session, asked, list(blocks))
+    found = all_hanging(session, asked, list(blocks), left_out)
     return Ranked(tables, {key: blocks[key] for key in matter.ranked(list(blocks), found)}, found)
 
 
@@ -146,7 +156,7 @@ def ranked_notes(ranked: Ranked) -> List[str]:
 
 def decide_page(session: Session, asked: Sequence[Question], title: str, source: str = "") -> str:
     """The page of a session's conflicts, ranked by what hangs on them for some questions."""
-    ranked = ranked_keys(session, asked, source)
+    ranked = ranked_keys(session, asked, source, left_out=note_left_out)
     data = {
         "tables": [_table_data(table) for table in ranked.tables],
         "questions": [_question_text(one.question) for one in ranked.found],

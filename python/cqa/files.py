@@ -10,6 +10,7 @@ import sys
 import tempfile
 from typing import BinaryIO, Iterator, Optional, Sequence
 
+from . import underway
 from .errors import OutputFault
 
 
@@ -84,6 +85,7 @@ def standard_output() -> Iterator[BinaryIO]:
         yield io.BytesIO()
         return
     sys.stdout.flush()
+    underway.hold()
     with open(1, "wb", closefd=False) as stream:
         yield stream
 

@@ -13,6 +13,7 @@ from functools import partial
 from itertools import chain, repeat
 from typing import IO, Callable, Dict, Iterator, List, Optional, Protocol, Sequence, Tuple, TypeVar, Union
 
+from . import underway
 from .blocks import BlockWriter
 from .columns import Column, DateColumn, DecimalColumn, TextColumn, TimeColumn, csv_fault
 from .common import KeysOfLists
@@ -129,7 +130,8 @@ class Lists:
             return
         with raw:
             try:
-                self._add(path, source, raw)
+                with underway.saying(lambda: "%s, %s records" % (path, format(self.records, ","))):
+                    self._add(path, source, raw)
             except _ReadFault as fault:
                 self.tell(path, None, str(fault))
         self._tell_counts()

@@ -9,7 +9,7 @@ import warnings
 from typing import List, Optional, Sequence
 
 from .conflicts import Conflicts
-from .deciding import questions, ranked_keys, ranked_notes, ranked_text
+from .deciding import note_left_out, questions, ranked_keys, ranked_notes, ranked_text
 from .errors import ScaleWarning
 from .files import check_output, standard_output, written
 from .matter import listed
@@ -31,26 +31,56 @@ def csv_main(arguments: Sequence[str]) -> int:
     words = argparse.ArgumentParser(prog="cqa csv", description="The rows of the last question of script files as CSV with a header, or "
                                     "the two ends, where it is a range, a line for each group; an end that is none is empty. Where a statement is refused, nothing is written.")
     words.add_argument("files", nargs="+", metavar="FILE")
+    words.add_argument("--table", metavar="TABLE", help="in place of a question: the rows of a table, with all columns but that of sources; "
+                       "refused while keys of it are in conflict")
+    words.add_argument("--certain", action="store_true", help="with --table: the keys that are in no conflict alone")
     words.add_argument("-o", "--output", metavar="FILE", help="the file to write, in place of standard output")
     told = words_told(words, arguments)
+    if told.certain and not told.table:
+        words.error("--certain wants --table")
     check_output(told.output, told.files)
     answers: List[Answer] = []
     session = loaded(told.files, answers)
     if session is None:
-        print("cqa csv: nothing is written", file=sys.stderr)
-        return 1
+        return _nothing()
     with session:
-        asked = [answer for answer in answers if answer.verb in QUESTIONS + ENDS]
-        last = asked[-1] if asked else None
-        if last is None:
-            print("cqa csv: no statement of %s is an ask, a possible, a disputed or a range" % ", ".join(told.files), file=sys.stderr)
-            return 1
-        lines = [line.decode("utf-8") for line in last.lines]
-        text = (session.ends_of(last.text, lines) if last.verb in ENDS else session.rows_of(last.text, lines)).csv_text()
-    if len(asked) > 1:
-        print("cqa csv: note: of %d questions the last one is written, %s:%d" % (len(asked), last.path, last.line), file=sys.stderr)
+        text = _table_text(session, told.table, told.certain, told.files) if told.table else _last_text(session, answers, told.files)
+    if text is None:
+        return _nothing()
     _write(text, told.output)
     return 0
+
+
+def _nothing() -> int:
+    print("cqa csv: nothing is written", file=sys.stderr)
+    return 1
+
+
+def _last_text(session: Session, answers: Sequence[Answer], files: Sequence[str]) -> Optional[str]:
+    """The answer of the last question as CSV, or None where there is no question."""
+    asked = [answer for answer in answers if answer.verb in QUESTIONS + ENDS]
+    if not asked:
+        print("cqa csv: no statement of %s is an ask, a possible, a disputed or a range; --table TABLE writes the rows of a table" % ", ".join(files),
+              file=sys.stderr)
+        return None
+    last = asked[-1]
+    if len(asked) > 1:
+        print("cqa csv: note: of %d questions the last one is written, %s:%d" % (len(asked), last.path, last.line), file=sys.stderr)
+    lines = [line.decode("utf-8") for line in last.lines]
+    return (session.ends_of(last.text, lines) if last.verb in ENDS else session.rows_of(last.text, lines)).csv_text()
+
+
+def _table_text(session: Session, table: str, is_part_wanted: bool, files: Sequence[str]) -> Optional[str]:
+    """The certain rows of a table as CSV, or None where it isn't there, or where keys in conflict would be missing and that isn't wanted."""
+    if session.schema(table) is None:
+        print("cqa csv: no table %s in %s" % (table, ", ".join(files)), file=sys.stderr)
+        return None
+    settled = session.settled(table)
+    if settled.open_keys:
+        print("cqa csv: %d of %d keys of %s %s in conflict%s" % (
+            settled.open_keys, settled.keys, table, "is" if settled.open_keys == 1 else "are",
+            ", and not written" if is_part_wanted else ": `cqa decide` makes a page to settle them, and --certain writes the other keys alone"), file=sys.stderr)
+    return None if settled.open_keys and not is_part_wanted else settled.rows.csv_text()
 
 
 def conflicts_main(arguments: Sequence[str]) -> int:
@@ -102,7 +132,7 @@ def _by_matter(session: Session, answers: Sequence[Answer], source: str, tables:
     """The keys in conflict in the order in which it helps to decide them, as lines or as CSV."""
     with warnings.catch_warnings():
         warnings.simplefilter("ignore", ScaleWarning)  # values are handled as they are stored
-        ranked = ranked_keys(session, questions(answers), source, tables)
+        ranked = ranked_keys(session, questions(answers), source, tables, note_left_out)
     for note in ranked_notes(ranked):
         print("cqa conflicts: %s" % note, file=sys.stderr)
     return listed(list(ranked.keys), ranked.found).csv_text() if is_csv else ranked_text(ranked)

@@ -7,11 +7,13 @@ deciding the key otherwise gives the row in some choice of the others.
 from __future__ import annotations
 
 import contextlib
+import re
 from collections import Counter
 from dataclasses import dataclass, field
 from decimal import Decimal
-from typing import Callable, Dict, Iterator, List, NamedTuple, Optional, Sequence, Tuple
+from typing import Dict, Iterator, List, NamedTuple, Optional, Sequence, Tuple
 
+from . import underway
 from .answers import Kept, against
 from .errors import Refused
 from .replies import row_of
@@ -34,14 +36,20 @@ class Question(NamedTuple):
     is_range: bool
 
 
+def question_of(text: str) -> Question:
+    """A question as it is written: a query, or `range` and what stands behind it."""
+    found = re.match(r"\s*range\s", text)
+    return Question((text[found.end():] if found else text).strip().rstrip(";"), found is not None)
+
+
 @dataclass
 class Hanging:
     """What hangs on the keys in conflict for one question.
 
-    rows: how many disputed rows hang on each key. answers: these rows, as they are stored. widths: by how much deciding the key can narrow the range at most. disputed: how
-    many rows of the question are disputed. looked_at: of how many of them, or of how many keys, it was told. untold: of how many rows
-    it can't be told, since they have too many witnesses, or since their search is spent, or since no rows of two parts stand against
-    them together.
+    rows: how many disputed rows hang on each key. answers: these rows, as they are stored. widths: by how much deciding the key can narrow
+    the range at most. disputed: how many rows of the question are disputed. looked_at: of how many of them, or of how many keys, it was
+    told. untold: of how many rows it can't be told, since they have too many witnesses, or since their search is spent, or since no rows
+    of two parts stand against them together.
     """
 
     question: Question
@@ -101,23 +109,21 @@ def _literal(value: Cell) -> str:
     return quoted(value)
 
 
-def hanging(session: Session, question: Question, keys: Sequence[Key], step: Callable[[], None] = lambda: None) -> Hanging:
-    """What hangs on keys in conflict for a question. step: called now and then, for whoever shows how far it is.
-
-    Raises Refused where the question is refused.
-    """
-    blocks = Blocks(session)
-    return _of_range(blocks, question, keys, step) if question.is_range else _of_rows(blocks, question, step)
+def hanging(session: Session, question: Question, keys: Sequence[Key]) -> Hanging:
+    """What hangs on keys in conflict for a question. Raises Refused where the question is refused."""
+    found = Hanging(question)
+    with underway.saying(lambda: "%s, %s looked at" % (question.query, format(found.looked_at, ","))):
+        (_of_range if question.is_range else _of_rows)(Blocks(session), found, keys)
+    return found
 
 
 # Disputed rows.
 
-def _of_rows(blocks: Blocks, question: Question, step: Callable[[], None]) -> Hanging:
-    found = Hanging(question)
+def _of_rows(blocks: Blocks, found: Hanging, _: Sequence[Key]) -> None:
+    question = found.question
     rows = _disputed(blocks.session, question.query)
     found.disputed = len(rows)
     for row in _sample(rows, MOST_ROWS):
-        step()
         found.looked_at += 1
         kept = _against(blocks, row, parts_of(question.query))
         if kept is None:
@@ -126,7 +132,6 @@ def _of_rows(blocks: Blocks, question: Question, step: Callable[[], None]) -> Ha
             for key in {blocks.key_of(one) for one in kept}:
                 found.rows[key] += 1
                 found.answers.setdefault(key, []).append(row)
-    return found
 
 
 def _disputed(session: Session, query: str) -> List[Tuple[Cell, ...]]:
@@ -180,20 +185,18 @@ def _is_needed(blocks: Blocks, row: Tuple[Cell, ...], parts: Sequence[str], othe
 
 # Ranges.
 
-def _of_range(blocks: Blocks, question: Question, keys: Sequence[Key], step: Callable[[], None]) -> Hanging:
-    found = Hanging(question)
+def _of_range(blocks: Blocks, found: Hanging, keys: Sequence[Key]) -> None:
+    question = found.question
     tables = aggregate_of(question.query).tables
     whole = _width(blocks.session, question.query)
     concerned = [key for key in keys if key[0] in tables]
     found.disputed = 1 if whole else 0
     for key in concerned[:MOST_KEYS] if whole else []:
-        step()
         found.looked_at += 1
         narrowed = whole - min(_width_with(blocks, question.query, key[0], row) for row in blocks.rows(key))
         if narrowed > 0:
             found.widths[key] = narrowed
     found.untold = len(concerned) - found.looked_at if whole else 0
-    return found
 
 
 def _width_with(blocks: Blocks, aggregate: str, table: str, row: Tuple[Cell, ...]) -> Decimal:

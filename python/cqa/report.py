@@ -11,7 +11,7 @@ import sys
 import warnings
 from typing import Dict, List, NamedTuple, Optional, Sequence, Tuple
 
-from . import page
+from . import page, underway
 from .answers import Classification, Explanation, Range, against, explanation
 from .conflicts import Conflicts, Disputed
 from .drawing import HEADS, attack_graph
@@ -230,7 +230,8 @@ def _question_part(session: Session, number: int, question: Question) -> Answere
     head = '<h2 id="q%d">Question %d <span class="quiet">%s</span></h2><pre>%s %s;</pre>%s' % (
         number, number, page.text(question.place), asked, page.text(question.query), also if others or verb != asked else "")
     try:
-        said, part = _range_part(session, question.query) if question.is_range else _rows_part(session, question)
+        with underway.saying(lambda: words):
+            said, part = _range_part(session, question.query) if question.is_range else _rows_part(session, question)
     except (Refused, ScaleFault) as refused:
         text = refused.line if isinstance(refused, Refused) else str(refused)
         return Answered(words, "refused", head + '<p class="odd">%s</p>' % page.text(text))

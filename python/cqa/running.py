@@ -7,10 +7,10 @@ import contextlib
 import queue
 import sys
 import threading
-import time
 from functools import partial
 from typing import BinaryIO, Callable, Dict, Iterator, List, NamedTuple, Optional, Sequence, Set, Tuple
 
+from . import underway
 from .errors import InputTooLong, ScaleFault, StateFault
 from .files import standard_output
 from .marks import Marks, marks_of, state_fault, state_text
@@ -27,6 +27,7 @@ from .words import told as words_told
 _PIECE = 1 << 20
 _MOST_INPUT = 268_435_456
 _MOST_NOTES = 20
+_MOST_SHOWN = 200
 
 
 #: The statements that ask of a query, and change nothing.
@@ -108,6 +109,7 @@ class Runner:
             self._own[file.path] = marks
         self._made: Dict[str, Schema] = {}  # the tables that the statements up to here make, where nothing is refused
         self.sent_bytes = 0
+        self._awaited: Optional[_Sent] = None
         self._bytes_before = 0
         self._counted: Tuple[Optional[ScriptFile], int, int] = (None, 0, 1)
         self.answered = 0
@@ -129,6 +131,7 @@ class Runner:
             if sent.stated is not None:
                 self._compare(sent.file, sent.stated)
                 continue
+            self._awaited = sent
             yield self._answer(sent)
             self.answered += 1
             if self._is_stopped or not sent.statement.complete:
@@ -137,6 +140,10 @@ class Runner:
     def answers_in_step(self, before: Callable[[str], None]) -> Iterator[Answer]:
         """As `answers`, but each statement is sent when the one before is dealt with, so that the program can be asked in between.
         before: called with the first word of each statement before it is sent."""
+        with underway.saying(self.waits_for):
+            yield from self._in_step(before)
+
+    def _in_step(self, before: Callable[[str], None]) -> Iterator[Answer]:
         for file in self._files:
             for told in stated_of(file.script):
                 self._ask_for(told)
@@ -145,6 +152,7 @@ class Runner:
             for statement in statements(file.script):
                 sent = self._looked_at(file, statement)
                 before(verb_of(statement.text(file.script).decode("utf-8", "replace")))
+                self._awaited = sent
                 if not sent.fault and sent.cause is None:
                     with contextlib.suppress(BrokenPipeError):
                         self._send_statement(sent)
@@ -152,6 +160,14 @@ class Runner:
                 yield self._answer(sent)
                 if not statement.complete:
                     return
+
+    def waits_for(self) -> str:
+        """The statement whose reply is waited for, in a line."""
+        if self._awaited is None:
+            return ""
+        script, statement = self._awaited.file.script, self._awaited.statement
+        text = script[statement.start:min(statement.text_end, statement.start + _MOST_SHOWN)]
+        return " ".join(text.decode("utf-8", "replace").split())
 
     def stop(self) -> None:
         """Ends the run: no further answer comes."""
@@ -267,41 +283,12 @@ class Runner:
         return Answer(sent.file.path, text, verb, [], refusal, place)
 
 
-class Progress:
-    """How much of the files is read, on a terminal: a line that is written anew twice a second."""
-
-    def __init__(self, runner: Runner, total: int) -> None:
-        self._runner = runner
-        self._total = total
-        self._is_over = threading.Event()
-        self._lock = threading.Lock()
-        self._is_shown = False
-        if sys.stderr.isatty() and total > _PIECE:
-            threading.Thread(target=self._show, daemon=True).start()
-
-    def _show(self) -> None:
-        began = time.monotonic()
-        while not self._is_over.wait(0.5):
-            if time.monotonic() - began < 1:
-                continue
-            with self._lock:
-                done = self._runner.sent_bytes
-                sys.stderr.write("\r\033[K%s of %s bytes (%d%%), %s statements" % (
-                    format(done, ","), format(self._total, ","), 100 * done // max(1, self._total), format(self._runner.answered, ",")))
-                sys.stderr.flush()
-                self._is_shown = True
-
-    def clear(self) -> None:
-        """Takes the line away, before something else is written."""
-        with self._lock:
-            if self._is_shown:
-                sys.stderr.write("\r\033[K")
-                self._is_shown = False
-
-    def end(self) -> None:
-        """Ends the showing."""
-        self._is_over.set()
-        self.clear()
+def _progress(runner: Runner, total: int) -> str:
+    """How much of the files is read, and from then on which statement is waited for."""
+    done = runner.sent_bytes
+    if done < total:
+        return "%s of %s bytes (%d%%), %s statements" % (format(done, ","), format(total, ","), 100 * done // max(1, total), format(runner.answered, ","))
+    return runner.waits_for()
 
 
 class Notes:
@@ -332,16 +319,14 @@ def run_files(files: Sequence[ScriptFile], child: Child, stops: bool, is_strict:
     Raises Ended where the program ends, and as `Runner`.
     """
     runner = Runner(child, files, is_strict)
-    progress = Progress(runner, sum(len(file.script) for file in files))
-    try:
+    with underway.saying(partial(_progress, runner, sum(len(file.script) for file in files))):
         for answer in runner.answers():
-            progress.clear()
+            underway.hold()
             yield answer
+            underway.go_on()
             if stops and answer.refusal:
                 runner.stop()
                 return
-    finally:
-        progress.end()
 
 
 def loaded(paths: Sequence[str], answers: Optional[List[Answer]] = None, is_apart: bool = False,

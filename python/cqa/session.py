@@ -12,9 +12,9 @@ from decimal import Decimal
 from enum import Enum
 from functools import partial
 from types import TracebackType
-from typing import Dict, Iterable, Iterator, List, Mapping, Optional, Sequence, Tuple, Type, Union
+from typing import Dict, Iterable, Iterator, List, Mapping, NamedTuple, Optional, Sequence, Tuple, Type, Union, overload
 
-from . import answers
+from . import answers, underway
 from .answers import Classification, Explanation, Group, Kept, Range, UnionClassification
 from .blocks import create_text, rows_script
 from .columns import is_in_range, scaled
@@ -40,6 +40,14 @@ from .trial import Trial
 #: Statements that not every program knows: how each begins, and the reply of a program that doesn't know it.
 NEWER = (("disputed", "error 2 Syntax at 0"), ("against", "error 2 Syntax at 0"), ("prove", "error 2 Syntax at 0"),
          ("range", "error 2 Syntax at 0"), ("prefer", "error 2 Syntax at 0"), ("show conflicts", "error 2 Syntax at 5"))
+
+
+class Settled(NamedTuple):
+    """What of a table is in no conflict: its rows, one for each such key. keys: how many keys there are; open_keys: how many are in conflict."""
+
+    rows: Rows
+    keys: int
+    open_keys: int
 
 
 class Session:
@@ -347,25 +355,53 @@ class Session:
         schema = self._there(table)
         return self.possible("select %s from %s" % (", ".join(schema.columns), table))
 
-    def conflicts(self, table: str, source: Optional[str] = None) -> Conflicts:
+    @overload
+    def conflicts(self, table: str, source: Optional[str] = None) -> Conflicts: ...
+
+    @overload
+    def conflicts(self, table: Optional[str] = None, source: Optional[str] = None, *, matter: Union[str, Sequence[str]]) -> Rows: ...
+
+    def conflicts(self, table: Optional[str] = None, source: Optional[str] = None, *,
+                  matter: Union[str, Sequence[str], None] = None) -> Union[Conflicts, Rows]:
         """The keys of a table whose rows differ: how many by column, and for each key its values with their sources.
 
         source: the column of sources; where it isn't told, that with which the table was loaded. Another one, whatever it is called, counts.
-        Rows that differ in their source alone are in no conflict. Raises NoSuchName, a KeyError, where the table isn't there.
+        Rows that differ in their source alone are in no conflict.
+
+        matter: questions, as "select .. from .." or "range sum .. from ..". With them the keys in conflict come as rows, of all tables where
+        none is named, in the order in which it helps to decide them: those first on which most disputed rows of the questions hang, and by
+        which ranges are widest. A row has the table, the key's values, how many disputed rows hang on it, and by how much deciding it narrows
+        each range at most.
+
+        Raises NoSuchName, a KeyError, where the table or its column isn't there; with questions Refused, and without them ValueError where
+        no table is named.
         """
+        if matter is not None:
+            return self._by_matter([table] if table else [], source, [matter] if isinstance(matter, str) else matter)
+        if table is None:
+            raise ValueError("a table is wanted, or the questions by which all are ranked, as conflicts(matter=[..])")
         return self.conflicts_of([table], source)[0]
 
-    def matter(self, queries: Sequence[str]) -> Rows:
-        """The keys in conflict of all tables in the order in which it helps to decide them: those first on which most disputed rows of
-        some queries hang, and by which ranges (`range count from ..`) are widest. A row for each key: its table, its values, how many
-        disputed rows hang on it, and by how much deciding it narrows each range at most. Questions that are refused are left out."""
+    def _by_matter(self, tables: Sequence[str], source: Optional[str], asked: Sequence[str]) -> Rows:
+        """The keys in conflict as rows, ranked by what hangs on them."""
         from .deciding import ranked_keys  # which stands on this module
-        from .matter import Question, listed
+        from .matter import listed, question_of
 
+        for table in tables:
+            self._columns(self._there(table), source)  # which sees whether both are there
         with warnings.catch_warnings():
             warnings.simplefilter("ignore", ScaleWarning)  # values are handled as they are stored
-            ranked = ranked_keys(self, [Question(re.sub(r"^\s*range\s", "", query), bool(re.match(r"\s*range\s", query))) for query in queries])
+            ranked = ranked_keys(self, [question_of(one) for one in asked], source or "", tables)
         return listed(list(ranked.keys), ranked.found)
+
+    def settled(self, table: str) -> Settled:
+        """The rows of the keys of a table that are in no conflict, with all columns but that of sources, by which no rows differ here.
+        Raises NoSuchName, a KeyError, where the table isn't there."""
+        columns = self._columns(self._there(table), None)
+        keys = len(self._lines("possible select %s from %s;" % (", ".join(columns.names[at] for at in columns.key), table))) - 1
+        names = [name for at, name in enumerate(columns.names) if at != columns.source]
+        rows = self.certain("select %s from %s" % (", ".join(names), table))
+        return Settled(rows, keys, keys - len(rows))
 
     def conflicts_of(self, tables: Sequence[str], source: Optional[str] = None) -> List[Conflicts]:
         """As `conflicts`, of several tables by one pass over what is stored. source: where it is told, each has such a column."""
@@ -375,7 +411,7 @@ class Session:
             if table in found:
                 found[table].add(rows)
 
-        with many_rows():
+        with many_rows(), underway.saying(lambda: "%s rows" % format(sum(one.rows for one in found.values()), ",")):
             left = self._child.read(b"dump;", partial(read_dump, take=take)) & found.keys()
         for table in left:
             columns = self._columns(self._there(table), source)

@@ -20,10 +20,15 @@ _SAID = {
 }
 
 
+def is_seen(text: str) -> bool:
+    """Whether each letter of a text has a look of its own; blanks at its ends may be overlooked."""
+    return text.isprintable() and (text.isascii() or unicodedata.is_normalized("NFC", text))
+
+
 def seen(text: str) -> str:
     """A text with marks for what nobody sees: a picture of a blank or a tab at an end and of a control byte, and the number of a
     letter without a look, as \\u200b, or of an accent that stands apart."""
-    if text.isascii() and text.isprintable() and text == text.strip():
+    if is_seen(text) and text == text.strip(" "):
         return text
     inner = text.strip(" \t")
     begin = len(text) - len(text.lstrip(" \t"))

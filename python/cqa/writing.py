@@ -11,7 +11,7 @@ from typing import Dict, List, NamedTuple, Optional, Sequence, Set, Tuple
 #: The words that lists write where nothing is known.
 NULL_WORDS = frozenset(("NULL", "Null", "null", "N/A", "n/a", "#N/A", "NA", "\\N", "nil", "None", "NaN", "nan", "(null)", "<NA>"))
 
-_NUMBERS = re.compile(r"(?:-?(?:0|[1-9][0-9]*)(?:[.,][0-9]+)?\n)*")
+_NUMBERS = re.compile(r"(?:[+-]?(?:0|[1-9][0-9]*)(?:[.,][0-9]+)?\n)*")
 _MARKED = re.compile(r"([.,])([0-9]+)")
 _DATES = re.compile(r"(?:(?:[0-9]{4}([-./])[0-9]{1,2}\1[0-9]{1,2}|[0-9]{1,2}([-./])[0-9]{1,2}\2[0-9]{4})?\n)*")
 _DATE_PARTS = re.compile(r"([0-9]+)([-./])([0-9]+)[-./]([0-9]+)")
@@ -74,6 +74,7 @@ class Writing:
         self._nulls: Dict[str, _First] = {}
         self._feeds: Dict[str, _First] = {}
         self._formulas: Optional[_First] = None
+        self._signed: Optional[_First] = None
         self._twice: Dict[bool, _First] = {}  # UTF-8 read as Latin-1: by whether the list is read so
 
     def begin(self, name: str, encoding: str) -> None:
@@ -85,6 +86,8 @@ class Writing:
         """Looks at the fields of a piece. joined: they, with a line feed behind each. where: the line of each."""
         if self._are_numbers:
             self._look_for_places(joined)
+        if self._are_numbers and "+" in joined:
+            self._signed = _counted(self._signed, [field.startswith("+") for field in fields], fields, where, path)
         if self._are_dates:
             self._look_for_dates(fields, joined)
         for word in NULL_WORDS.intersection(fields):
@@ -123,7 +126,7 @@ class Writing:
 
     def notes(self, name: str) -> List[str]:
         """What is good to know of a column of texts."""
-        return [*self._number_notes(name), *self._date_notes(name), *self._word_notes(name)]
+        return [*self._number_notes(name), *self._sign_notes(name), *self._date_notes(name), *self._word_notes(name)]
 
     def _number_notes(self, name: str) -> List[str]:
         if not self._are_numbers or not self._marks:
@@ -139,6 +142,12 @@ class Writing:
         options = " ".join("--decimal-mark %s=," % one for one in commas)
         return ["%s holds numbers, with , before the places in %s and with . in %s, so that equal ones differ: --decimal %s:%d %s stores both with %s"
                 % (name, " and ".join(commas), " and ".join(points), name, self._most_places, options, _places(self._most_places))]
+
+    def _sign_notes(self, name: str) -> List[str]:
+        if not self._are_numbers or self._signed is None:
+            return []
+        return ["%s: %s written with a sign, as %s in %s, which differs from the number without it: --decimal %s:%d stores both as one"
+                % (name, _fields(self._signed.number), self._signed.field, self._signed.place, name, self._most_places)]
 
     def _date_notes(self, name: str) -> List[str]:
         if not self._are_dates or not self._dates or all(dates.are_iso for dates in self._dates.values()):

@@ -30,8 +30,8 @@ HAS_BROWSER = webdriver is not None and os.path.exists(BROWSER) and os.path.exis
 LOAD = """-- cqa: column customer.credit has 2 places
 -- cqa: column customer.source has the sources
 create table customer (id int, name text, city text, credit int, source text, primary key (id));
-insert into customer values (1, 'Ada', 'Oslo', 12.50, 'crm'), (1, 'Ada', 'Bergen', 1250, 'shop'), (2, 'Bo', 'Bergen', 500, 'crm');
-insert into customer values (3, 'Cy', 'Oslo', 700, 'crm'), (3, 'Cy', 'Voss', 700, 'shop'), (4, 'Dag', 'Oslo', 100, 'crm'), (4, 'Dag', 'Oslo', 200, 'shop');
+insert into customer values (1, 'Ada', 'Oslo', 12.50, 'crm'), (1, 'Ada', 'Bergen', 12.50, 'shop'), (2, 'Bo', 'Bergen', 5.00, 'crm');
+insert into customer values (3, 'Cy', 'Oslo', 7.00, 'crm'), (3, 'Cy', 'Voss', 7.00, 'shop'), (4, 'Dag', 'Oslo', 1.00, 'crm'), (4, 'Dag', 'Oslo', 2.00, 'shop');
 create table door (room int, customer int, primary key (room));
 insert into door values (10, 1), (11, 3), (11, 4);
 """
@@ -69,6 +69,25 @@ class Command(ProgramCase):
         self.assertIn("1 disputed answer", page)
         self.assertIn("range sum credit from customer by 1.00", page)
 
+    def test_the_rows_of_a_table_that_is_settled(self) -> None:
+        self.file("load.cqa", LOAD)
+        self.file("decided.cqa", "prefer customer where source = 'crm';\n")
+        status, rows, said = self.command("csv", "load.cqa", "decided.cqa", "--table", "customer", "-o", "clean.csv")
+        self.assertEqual((0, ""), (status, rows), said)
+        self.assertNotIn("in conflict", said)
+        self.assertEqual("id,name,city,credit\n1,Ada,Oslo,12.50\n2,Bo,Bergen,5.00\n3,Cy,Oslo,7.00\n4,Dag,Oslo,1.00\n", self.read("clean.csv"))
+
+    def test_the_rows_of_a_table_in_conflict_are_refused(self) -> None:
+        self.file("load.cqa", LOAD)
+        status, rows, said = self.command("csv", "load.cqa", "--table", "customer", "-o", "clean.csv")
+        self.assertEqual((1, "", False), (status, rows, os.path.exists(self.path("clean.csv"))))
+        self.assertEqual("cqa csv: 3 of 4 keys of customer are in conflict: `cqa decide` makes a page to settle them, and --certain writes the other "
+                         "keys alone\ncqa csv: nothing is written\n", said)
+        status, rows, said = self.command("csv", "load.cqa", "--table", "customer", "--certain")
+        self.assertEqual((0, "id,name,city,credit\n2,Bo,Bergen,5.00\n", "cqa csv: 3 of 4 keys of customer are in conflict, and not written\n"), (status, rows, said))
+        status, _, said = self.command("csv", "load.cqa", "--table", "shop")
+        self.assertEqual((1, "cqa csv: no table shop in load.cqa\ncqa csv: nothing is written\n"), (status, said))
+        self.assertEqual(2, self.command("csv", "load.cqa", "--certain")[0])
 
     def test_conflicts_in_the_order_in_which_they_matter(self) -> None:
         self.file("load.cqa", LOAD)
@@ -84,8 +103,14 @@ class Command(ProgramCase):
         self.assertEqual("table,key,disputed rows\ncustomer,1,1\ncustomer,3,0\ncustomer,4,0\ndoor,11,0\n", text)
         with cqa.Session() as session:
             session.run(LOAD)
-            rows = session.matter(["select name from customer where city = 'Oslo' and id = 1", "range sum credit from customer"])
+            rows = session.conflicts(matter=["select name from customer where city = 'Oslo' and id = 1", "range sum credit from customer;"])
             self.assertEqual([("customer", "1"), ("customer", "4")], [row[:2] for row in rows[:2]])
+            self.assertEqual([("door", "11", 0)], session.conflicts("door", matter="select name from customer where city = 'Oslo'"))
+            self.assertEqual(3, len(session.conflicts("customer")))
+            for wrong, words in ((ValueError, {}), (cqa.Refused, {"matter": ["select nothing from customer"]}),
+                                 (cqa.NoSuchName, {"table": "shop", "matter": []}), (cqa.NoSuchName, {"table": "door", "source": "city", "matter": []})):
+                with self.assertRaises(wrong):
+                    session.conflicts(**words)
 
     def test_decisions_for_other_rows_are_refused(self) -> None:
         self.file("load.cqa", LOAD)

@@ -203,7 +203,8 @@ class Faults(Case):
     def test_an_unended_quote_swallows_nothing(self) -> None:
         self.assertEqual(self.faults('id,name\n1,Ada Holm\n2,"Bo Lind\n3,Cy Moe\n4,Dag Vik\n'), ["a.csv:3: a quote is opened here and never closed"])
         self.assertEqual(self.faults('id,name\n2,"Bo\n3,"Cy"\n4,Dag\n'), ["a.csv:2: something stands behind a closing quote"])
-        self.assertEqual(self.faults('id,name\n2,"Bo\n' + "3,Cy\n" * 50_000), ["a.csv:2: a quote is opened here and not closed within 131,072 letters"])
+        self.assertEqual(self.faults('id,name\n2,"Bo\n' + "3,Cy\n" * 50_000), ["a.csv:2: a field has more than 131,072 letters, as where a quote is opened and not closed"])
+        self.assertEqual(self.faults("id,name\n2," + "x" * 200_000 + "\n3,Cy\n"), ["a.csv:2: a field has more than 131,072 letters, as where a quote is opened and not closed"])
 
     def test_a_line_without_end(self) -> None:
         self.assertTrue(self.faults("id,n\n1," + "x" * 3_000_000))
