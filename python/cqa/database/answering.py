@@ -13,8 +13,8 @@ from .plan import Plan, Step
 from .query import Keyed
 
 _MOST_AT_ONCE = 500
-#: Keys are looked for among those that the joins met where these are at most this part of a table's rows.
-_FEW = 10
+#: Repeated keys are looked for among those that the joins met, where these are at most a third of a table's rows.
+_FEW = 3
 
 
 class Candidate(NamedTuple):
@@ -145,12 +145,12 @@ class ByTables(Evaluation):
                 self._make(dict([repeated]))
             rows += self._make(dict(others))
         self._has_lists = rows > 0 and self._make(plan.list_steps()) > 0
-        text = plan.sure(self._has_lists)
+        text = plan.sure(self._has_lists, self.engine.looks_up)
         self.statements.append(text)
-        for number, *values in self.engine.rows(text, {}):
-            if number:
-                self._done.add(number)
-            yield tuple(values)
+        for row in self.engine.rows(text, {}):
+            if row[0]:
+                self._done.add(row[0])
+            yield tuple(row[1:])
 
     def candidates(self) -> Iterator[Candidate]:
         if not self._has_lists:
