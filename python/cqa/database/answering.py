@@ -13,8 +13,6 @@ from .plan import Plan, Step
 from .query import Keyed
 
 _MOST_AT_ONCE = 500
-#: Repeated keys are looked for among those that the joins met, where these are at most a third of a table's rows.
-_FEW = 3
 
 
 class Candidate(NamedTuple):
@@ -139,7 +137,7 @@ class ByTables(Evaluation):
         rows = 0
         for table in plan.watched:
             touched = sum(met[join.name] for join in plan.joins for leaf in join.leaves if leaf.table is table)
-            is_touched = touched * _FEW <= self.engine.size(table.relation)
+            is_touched = touched * self.engine.few <= self.engine.size(table.relation)
             repeated, *others = plan.conflict_steps(table, is_touched).items()
             with self.engine.find_by_index(not is_touched):
                 self._make(dict([repeated]))
