@@ -174,7 +174,8 @@ class Plan:
             return "%sSELECT DISTINCT 0 AS cqa_m, %s FROM cqa_c" % (clean, names)
         if is_looked_up:
             same = " AND ".join("n.%s IS c.%s" % (column, column) for column in self.columns)
-            return "%sSELECT DISTINCT coalesce((SELECT n.cqa_n FROM cqa_n n WHERE %s LIMIT 1), 0) AS cqa_m, %s FROM cqa_c c" % (clean, same, names)
+            number = "coalesce((SELECT n.cqa_n FROM cqa_n n WHERE %s LIMIT 1), 0)" % same
+            return "%sSELECT %s AS cqa_m, %s FROM (SELECT DISTINCT %s FROM cqa_c) c" % (clean, number, names, names)
         both = "SELECT 0 AS cqa_m, %s FROM cqa_c UNION ALL SELECT cqa_n, %s FROM cqa_n" % (names, names)
         return "%sSELECT max(cqa_m) AS cqa_m, %s FROM (%s) x GROUP BY %s HAVING min(cqa_m) = 0" % (clean, names, both, names)
 
