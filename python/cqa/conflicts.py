@@ -10,7 +10,7 @@ from itertools import chain, groupby
 from operator import itemgetter
 from typing import Callable, Dict, Iterable, Iterator, List, NamedTuple, Optional, Sequence, Tuple
 
-from .rows import Cell, Rows
+from .rows import Cell, Rows, cell_text
 from .unseen import is_seen, seen
 
 #: A row as a dump writes it: a text for each column.
@@ -178,7 +178,7 @@ class Conflicts:
 
     def listed(self) -> Rows:
         """A row for each value in conflict: the key, the column, the value, and its sources with a comma between two."""
-        rows = [(*block.key, name, value, ", ".join(map(str, sources)))
+        rows = [(*block.key, name, value, ", ".join(map(cell_text, sources)))
                 for block in self.disputed for name, values in block.values.items() for value, sources in values.items()]
         return Rows((*self.key, "column", "value", "sources"), rows)
 
@@ -188,7 +188,7 @@ class Conflicts:
 
     def _repr_html_(self) -> str:
         """A table for a notebook, with each text escaped."""
-        rows = [(", ".join(map(str, block.key)), name, values_text(values))
+        rows = [(", ".join(map(cell_text, block.key)), name, values_text(values))
                 for block in self.disputed for name, values in block.values.items()]
         return Rows((", ".join(self.key), "column", "values"), rows)._repr_html_()
 
@@ -217,7 +217,7 @@ def _values(rows: Sequence[Row], at: int, source: Optional[int]) -> Dict[str, Di
 
 def values_text(values: Dict[Cell, List[Cell]]) -> str:
     """Values with their sources, in a line."""
-    return " | ".join("%s%s" % (_shown(str(value)), " (%s)" % ", ".join(_shown(str(source)) for source in sources) if sources else "")
+    return " | ".join("%s%s" % (_shown(cell_text(value)), " (%s)" % ", ".join(_shown(cell_text(source)) for source in sources) if sources else "")
                       for value, sources in values.items())
 
 

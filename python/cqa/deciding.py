@@ -11,7 +11,7 @@ import json
 import os
 import sys
 import warnings
-from typing import Any, Callable, Dict, List, NamedTuple, Optional, Sequence, Tuple
+from typing import Any, Callable, Dict, List, Mapping, NamedTuple, Optional, Sequence, Tuple
 
 from . import matter, page
 from .conflicts import Columns, Conflicts, Disputed, values_text
@@ -20,9 +20,10 @@ from .files import check_output, standard_output, written
 from .matter import Blocks, Hanging, Key, Question
 from .replies import row_of
 from .report import questions_of
-from .rows import Cell
+from .rows import Cell, Rows, cell_text
 from .running import Answer, loaded
-from .scripts import Schema
+from .scaling import places_of
+from .scripts import Schema, selected
 from .session import Session
 from .stated import Stated, stated
 from .words import told as words_told
@@ -132,6 +133,15 @@ def ranked_keys(session: Session, asked: Sequence[Question], source: str = "", n
     return Ranked(tables, {key: blocks[key] for key in matter.ranked(list(blocks), found)}, found)
 
 
+def ranked_rows(ranked: Ranked) -> Rows:
+    """A row for each key in its order."""
+    return matter.listed({key: _key_text(ranked.tables[number], block) for key, (number, block) in ranked.keys.items()}, ranked.found)
+
+
+def _key_text(table: Table, block: Disputed) -> str:
+    return ", ".join(_shown(table, block.rows[0])[:len(table.schema.key)])
+
+
 def ranked_text(ranked: Ranked) -> str:
     """A line for each key with what hangs on it and its values; those on which no question hangs stand last, under a line of their own."""
     lines: List[str] = []
@@ -144,8 +154,7 @@ def ranked_text(ranked: Ranked) -> str:
         places = dict(zip(table.names, table.places))
         values = ["%s: %s" % (name, values_text({_shown_value(value, places[name]): sources for value, sources in of_column.items()}))
                   for name, of_column in block.values.items()]
-        shown = ", ".join(_shown(table, block.rows[0])[:len(table.schema.key)])
-        lines.append("%s %s  %s%s\n" % (table.schema.table, shown, _matters(key, ranked.found) + "  " if not is_last else "", "   ".join(values)))
+        lines.append("%s %s  %s%s\n" % (table.schema.table, _key_text(table, block), _matters(key, ranked.found) + "  " if not is_last else "", "   ".join(values)))
     return "".join(lines)
 
 
@@ -160,7 +169,7 @@ def decide_page(session: Session, asked: Sequence[Question], title: str, source:
     data = {
         "tables": [_table_data(table) for table in ranked.tables],
         "questions": [_question_text(one.question) for one in ranked.found],
-        "keys": [_key_data(ranked.tables[number], number, block, key, ranked.found) for key, (number, block) in ranked.keys.items()],
+        "keys": [_key_data(ranked.tables[number], number, block, key, ranked.found, session.places) for key, (number, block) in ranked.keys.items()],
     }
     return _page(title, data, [_told(one) for one in ranked.found])
 
@@ -171,16 +180,16 @@ def _table_data(table: Table) -> Dict[str, Any]:
             "source": table.names.index(table.source) if table.source else None, "told": table.told.text()}
 
 
-def _key_data(table: Table, number: int, block: Disputed, key: Key, found: Sequence[Hanging]) -> Dict[str, Any]:
+def _key_data(table: Table, number: int, block: Disputed, key: Key, found: Sequence[Hanging], places: Mapping[Tuple[str, str], int]) -> Dict[str, Any]:
     shown = [_shown(table, row) for row in block.rows]
     differs = [table.names.index(name) for name in block.values]
     return {"table": number, "key": shown[0][:len(table.schema.key)], "rows": shown, "differs": differs, "matters": _matters(key, found),
-            "hangs": _hangs(key, found)}
+            "hangs": _hangs(key, found, places)}
 
 
 def _shown(table: Table, row: Sequence[Cell]) -> List[str]:
     """The values of a row as texts, with their places."""
-    return [str(_shown_value(value, places)) for value, places in zip(row, table.places)]
+    return [cell_text(_shown_value(value, places)) for value, places in zip(row, table.places)]
 
 
 def _shown_value(value: Cell, places: int) -> Cell:
@@ -190,20 +199,23 @@ def _shown_value(value: Cell, places: int) -> Cell:
 def _matters(key: Key, found: Sequence[Hanging]) -> str:
     """What hangs on a key, in a few words."""
     rows = sum(one.rows[key] for one in found)
-    widths = ["%s by %s" % (_question_text(one.question), one.widths[key]) for one in found if key in one.widths]
+    widths = ["%s by %s" % (_question_text(one.question), cell_text(one.widths[key])) for one in found if key in one.widths]
     return "; ".join(([matter.counted(rows, "disputed answer")] if rows else []) + widths)
 
 
-def _hangs(key: Key, found: Sequence[Hanging]) -> List[Tuple[int, str]]:
+def _hangs(key: Key, found: Sequence[Hanging], places: Mapping[Tuple[str, str], int]) -> List[Tuple[int, str]]:
     """Some of the answers that hang on a key, each with the number of its question."""
     shown: List[Tuple[int, str]] = []
     for number, one in enumerate(found):
         answers = one.answers.get(key, [])
-        shown += [(number, "(%s)" % ", ".join(map(str, answer))) for answer in answers[:_MOST_SHOWN]]
+        columns, tables = selected(one.question.query)
+        of_columns = [places_of(name, tables, places) for name in columns]
+        shown += [(number, "(%s)" % ", ".join([cell_text(_shown_value(value, count or -1)) for value, count in zip(answer, of_columns)]))
+                  for answer in answers[:_MOST_SHOWN]]
         if one.rows[key] > _MOST_SHOWN:
             shown.append((number, "and %d more" % (one.rows[key] - _MOST_SHOWN)))
         if key in one.widths:
-            shown.append((number, "is narrower by %s at most" % one.widths[key]))
+            shown.append((number, "is narrower by %s at most" % cell_text(one.widths[key])))
     return shown
 
 

@@ -9,10 +9,9 @@ import warnings
 from typing import List, Optional, Sequence
 
 from .conflicts import Conflicts
-from .deciding import note_left_out, questions, ranked_keys, ranked_notes, ranked_text
+from .deciding import note_left_out, questions, ranked_keys, ranked_notes, ranked_rows, ranked_text
 from .errors import ScaleWarning
 from .files import check_output, standard_output, written
-from .matter import listed
 from .running import Answer, loaded
 from .session import Session
 from .words import told as words_told
@@ -135,7 +134,7 @@ def _by_matter(session: Session, answers: Sequence[Answer], source: str, tables:
         ranked = ranked_keys(session, questions(answers), source, tables, note_left_out)
     for note in ranked_notes(ranked):
         print("cqa conflicts: %s" % note, file=sys.stderr)
-    return listed(list(ranked.keys), ranked.found).csv_text() if is_csv else ranked_text(ranked)
+    return ranked_rows(ranked).csv_text() if is_csv else ranked_text(ranked)
 
 
 def _tell_source(found: Conflicts) -> None:

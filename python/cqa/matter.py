@@ -11,7 +11,7 @@ import re
 from collections import Counter
 from dataclasses import dataclass, field
 from decimal import Decimal
-from typing import Dict, Iterator, List, NamedTuple, Optional, Sequence, Tuple
+from typing import Dict, Iterator, List, Mapping, NamedTuple, Optional, Sequence, Tuple
 
 from . import underway
 from .answers import Kept, against
@@ -248,10 +248,10 @@ def matters(key: Key, found: Sequence[Hanging]) -> bool:
     return any(one.rows[key] or key in one.widths for one in found)
 
 
-def listed(keys: Sequence[Key], found: Sequence[Hanging]) -> Rows:
-    """A row for each key: its table, its key's values with a comma between two, how many disputed rows hang on it, and by how much
+def listed(keys: Mapping[Key, str], found: Sequence[Hanging]) -> Rows:
+    """A row for each key, told with its text: its table, this text, how many disputed rows hang on it, and by how much
     deciding it narrows each range at most."""
     ranges = [one for one in found if one.question.is_range]
     names = ("table", "key", "disputed rows", *("range " + one.question.query for one in ranges))
-    return Rows(names, [(table, ", ".join(map(str, values)), sum(one.rows[(table, values)] for one in found),
-                         *(one.widths.get((table, values), 0) for one in ranges)) for table, values in keys])
+    return Rows(names, [(key[0], text, sum(one.rows[key] for one in found), *(one.widths.get(key, 0) for one in ranges))
+                        for key, text in keys.items()])

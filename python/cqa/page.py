@@ -6,7 +6,7 @@ import html
 import re
 from typing import Iterable, List, Sequence
 
-from .rows import Cell
+from .rows import Cell, cell_text
 from .unseen import seen
 
 _LONG_WORD = re.compile(r"\S{25}")
@@ -66,7 +66,7 @@ details summary { cursor: pointer; color: var(--quiet); margin: .4rem 0; }
 
 def text(value: Cell) -> str:
     """A value as text of the page: its own direction, and marks for what nobody sees."""
-    shown = seen(str(value))
+    shown = seen(cell_text(value))
     if not shown:
         return '<bdi class="quiet">(empty)</bdi>'
     kind = ' class="long"' if _LONG_WORD.search(shown) else ""

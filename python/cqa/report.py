@@ -18,7 +18,7 @@ from .drawing import HEADS, attack_graph
 from .errors import Refused, ScaleFault, ScaleWarning
 from .files import check_output, standard_output, written
 from .origins import Origin
-from .rows import Cell, Rows
+from .rows import Cell, Rows, cell_text
 from .running import QUERY_VERBS, Answer, loaded
 from .scripts import Schema, aggregate_of, parts_of, quoted, selected, tokens, without_comments
 from .session import Session
@@ -261,7 +261,7 @@ def _range_part(session: Session, aggregate: str) -> Tuple[str, str]:
     found: Range = session.range(aggregate)
     least, greatest = _end_shown(found.least), _end_shown(found.greatest)
     ends = "<p>It lies between <b>%s</b> and <b>%s</b>, whichever rows are right.</p>" % (page.text(least), page.text(greatest))
-    said = "between %s and %s" % (least, greatest)
+    said = "between %s and %s" % (cell_text(least), cell_text(greatest))
     if found.least == found.greatest or found.low == found.high:
         return said, ends
     return said, ends + "<p>It has these values where these rows are the right ones of their keys:</p>" + Shown(session).ends_part(found)
@@ -323,7 +323,7 @@ def _why_part(session: Session, question: Question, disputed: Rows) -> str:
 
 
 def _row_shown(row: Sequence[Cell]) -> str:
-    return "(%s)" % ", ".join(quoted(value) if isinstance(value, (int, str)) else str(value) for value in row)
+    return "(%s)" % ", ".join(quoted(value) if isinstance(value, (int, str)) else cell_text(value) for value in row)
 
 
 def _by_block(told: Explanation) -> str:

@@ -23,6 +23,11 @@ def csv_line(fields: Sequence[str]) -> str:
     return ",".join('"' + field.replace('"', '""') + '"' if _SPECIAL.search(field) else field for field in fields) + "\n"
 
 
+def cell_text(cell: Cell) -> str:
+    """A value as a text: a number with all of its places, and never with an exponent."""
+    return format(cell, "f") if isinstance(cell, Decimal) else str(cell)
+
+
 class Rows(List[Tuple[Cell, ...]]):
     """The rows of an answer, ascending, each once: a list of tuples, with the names of their columns.
 
@@ -52,7 +57,7 @@ class Rows(List[Tuple[Cell, ...]]):
         """The rows as CSV with a header line; lines end with a line feed. An `exists` is the column `exists`, with 1 for yes."""
         if not self.columns:
             return csv_line(["exists"]) + "".join(csv_line(["1"]) for _ in self)
-        return csv_line(self.columns) + "".join(csv_line([str(cell) for cell in row]) for row in self)
+        return csv_line(self.columns) + "".join(csv_line([cell_text(cell) for cell in row]) for row in self)
 
     def to_pandas(self) -> Any:
         """A pandas.DataFrame of the rows. Raises ImportError where pandas isn't installed."""
@@ -62,7 +67,7 @@ class Rows(List[Tuple[Cell, ...]]):
     def _repr_html_(self) -> str:
         """A table for a notebook, with each text escaped."""
         head = "".join("<th>%s</th>" % html.escape(name) for name in self.columns)
-        body = "".join("<tr>%s</tr>" % "".join("<td>%s</td>" % html.escape(str(cell)) for cell in row) for row in self)
+        body = "".join("<tr>%s</tr>" % "".join("<td>%s</td>" % html.escape(cell_text(cell)) for cell in row) for row in self)
         return "<table><thead><tr>%s</tr></thead><tbody>%s</tbody></table>" % (head, body)
 
     def __repr__(self) -> str:

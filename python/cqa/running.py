@@ -179,6 +179,7 @@ class Runner:
                 if not self._send_file(file):
                     break
                 self._bytes_before += len(file.script)
+                self.sent_bytes = self._bytes_before
             self.child.flush()
         except BrokenPipeError:
             pass  # the end of the replies tells why

@@ -384,15 +384,15 @@ class Session:
 
     def _by_matter(self, tables: Sequence[str], source: Optional[str], asked: Sequence[str]) -> Rows:
         """The keys in conflict as rows, ranked by what hangs on them."""
-        from .deciding import ranked_keys  # which stands on this module
-        from .matter import listed, question_of
+        from .deciding import ranked_keys, ranked_rows  # which stand on this module
+        from .matter import question_of
 
         for table in tables:
             self._columns(self._there(table), source)  # which sees whether both are there
         with warnings.catch_warnings():
             warnings.simplefilter("ignore", ScaleWarning)  # values are handled as they are stored
             ranked = ranked_keys(self, [question_of(one) for one in asked], source or "", tables)
-        return listed(list(ranked.keys), ranked.found)
+        return ranked_rows(ranked)
 
     def settled(self, table: str) -> Settled:
         """The rows of the keys of a table that are in no conflict, with all columns but that of sources, by which no rows differ here.

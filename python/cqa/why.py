@@ -10,7 +10,7 @@ from . import page
 from .answers import Kept, Range
 from .errors import Refused
 from .queries import tokens_of
-from .rows import Cell
+from .rows import Cell, cell_text
 from .scripts import Schema, parts_of, query_parts, without_comments
 from .session import Session
 
@@ -103,5 +103,5 @@ def _more(kept: Sequence[Kept]) -> str:
     """What is left of rows, behind a line that opens it."""
     if not kept:
         return ""
-    rows = [(table, ", ".join(map(str, row))) for table, row in kept]
+    rows = [(table, ", ".join(map(cell_text, row))) for table, row in kept]
     return page.more(("table", "row"), rows)

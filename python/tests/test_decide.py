@@ -69,6 +69,18 @@ class Command(ProgramCase):
         self.assertIn("1 disputed answer", page)
         self.assertIn("range sum credit from customer by 1.00", page)
 
+    def test_numbers_with_many_places_have_no_exponent(self) -> None:
+        self.file("small.csv", "id,v\n1.5,0.00000005\n1.5,0.00000006\n2,0\n")
+        self.assertEqual(0, self.command("load", "--table", "s", "--key", "id", "--decimal", "v:8", "--decimal", "id:1", "small.csv", "-o", "s.cqa")[0])
+        self.file("ask.cqa", "disputed select v from s;\nrange sum v from s;\n")
+        self.assertEqual("id,v\n2.0,0.00000000\n", self.command("csv", "s.cqa", "--table", "s", "--certain")[1])
+        self.assertEqual("id,column,value,sources\n1.5,v,0.00000005,\n1.5,v,0.00000006,\n", self.command("conflicts", "s.cqa", "--csv")[1])
+        self.assertIn("\n1.5  v: 0.00000005 | 0.00000006\n", self.command("conflicts", "s.cqa")[1])
+        self.assertEqual("table,key,disputed rows,range sum v from s\ns,1.5,2,0.00000001\n", self.command("conflicts", "s.cqa", "ask.cqa", "--matter", "--csv")[1])
+        for word in ("report", "decide"):
+            page = self.command(word, "s.cqa", "ask.cqa")[1]
+            self.assertEqual((True, False), ("0.00000005" in page, "E-8" in page), word)
+
     def test_the_rows_of_a_table_that_is_settled(self) -> None:
         self.file("load.cqa", LOAD)
         self.file("decided.cqa", "prefer customer where source = 'crm';\n")
