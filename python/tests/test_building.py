@@ -224,10 +224,10 @@ class TryTest(KitCase, ProgramCase):
             return found.returncode, found.stdout.decode(), found.stderr.decode().split("\n")[-2]
         proved = self.command("run", os.path.join(top, "t.cqa"))
         self.assertEqual(ran("try", "run", "t.cqa")[:2], proved[:2])
-        self.assertEqual(ran("try", "csv", "t.cqa", "-o", "t.csv"), (1, "", "cqa csv: t.csv: permission denied"))
+        self.assertEqual(ran("try", "csv", "t.cqa", "-o", "t.csv"), (1, "", "cqa csv: %s: permission denied" % top))
         status, out, told = ran("build")
         self.assertEqual((status, out), (126, ""))
-        self.assertRegex(told, "^cqa: not built: .*/crates/cqa_cli/out: permission denied|can't be written: permission denied$")
+        self.assertRegex(told, "^cqa: not built: .*/crates/cqa_cli/out can't be written: permission denied$")
 
     def test_without_a_temporary_folder(self) -> None:
         self.kit(TRIES)
@@ -362,7 +362,7 @@ class TestTest(KitCase, ProgramCase):
             proved = subprocess.run([PROGRAM or "", "check" if name == "proof.lrat" else "run"], input=script.encode(), stdout=subprocess.PIPE, check=False).stdout
             self.file("data/%s.out" % name.split(".")[0], wanted if name == "wrong.cqa" else proved)
 
-    def tested(self, tests: "Callable[[bool], bool]" = lambda is_built: True, **more: str) -> Tuple[int, str, str]:
+    def outcome(self, tests: "Callable[[bool], bool]" = lambda is_built: True, **more: str) -> Tuple[int, str, str]:
         """How a test ended, with its lines."""
         environment = {**self.kit(TRIES), "REAL": PROGRAM or "", **more}
         with mock.patch.multiple(testing, DATA=self.path("data"), is_fresh=lambda: False, is_python_well=tests), mock.patch.dict(os.environ, environment), \
@@ -373,20 +373,20 @@ class TestTest(KitCase, ProgramCase):
         return status, out.getvalue(), told.getvalue()
 
     def test_a_line_tells_what_differs(self) -> None:
-        status, out, told = self.tested()
+        status, out, told = self.outcome()
         self.assertEqual(status, 1)
         self.assertRegex(out, r"^script_tests/data/wrong\.cqa: line \d is '.*', and '.*' is wanted\n3 scripts, blocks and examples, of which 1 differ\n$")
         self.assertRegex(told, r"(?s)compiled without its proofs.*1 differ, in \d+ s\. This is a look and not the gate")
         os.unlink(self.path("data/wrong.cqa"))
         os.unlink(self.path("data/wrong.out"))
-        self.assertEqual(self.tested()[0], 0)
-        status, _, told = self.tested(lambda is_built: False)
+        self.assertEqual(self.outcome()[0], 0)
+        status, _, told = self.outcome(lambda is_built: False)
         self.assertEqual((status, "0 differ, and Python's tests fail" in told), (1, True))
 
     def test_what_keeps_it_from_being_tested(self) -> None:
-        status, out, told = self.tested(ENDS="src/lib.rt:1:1: error[syntax]: what")
+        status, out, told = self.outcome(ENDS="src/lib.rt:1:1: error[syntax]: what")
         self.assertEqual((status, out, "error[syntax]" in told), (126, "", True))
-        status, out, told = self.tested(PATH=self.path("none"))
+        status, out, told = self.outcome(PATH=self.path("none"))
         self.assertEqual((status, out, "rt isn't on the path" in told), (127, "", True))
 
 

@@ -34,7 +34,6 @@ class SQLite(Engine):
     has_quoted_texts = True
     using_converts = False
     checks_types = False
-    looks_up = True
     few = 3
 
     def __init__(self, connection: sqlite3.Connection, is_own: bool) -> None:
