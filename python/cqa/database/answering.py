@@ -108,7 +108,7 @@ def _rows_text(engine: Engine, plan: Plan, table: Keyed, blocks: Sequence[int]) 
     on.append(engine.is_same_identity("d.cqa_is", engine.identity(["t." + column.quoted for column in used], used)))
     columns = ", ".join("t." + column.quoted for column in table.relation.columns)
     return "SELECT d.cqa_b, d.cqa_r, %s FROM cqa_d%d d JOIN %s t ON %s WHERE d.cqa_b IN (%s)" % (
-        columns, number, table.relation.name, " AND ".join(on), ", ".join(map(str, blocks)))
+        columns, number, plan.rows_of(table), " AND ".join(on), ", ".join(map(str, blocks)))
 
 
 class ByTables(Evaluation):
@@ -139,9 +139,10 @@ class ByTables(Evaluation):
         rows = 0
         for table in plan.watched:
             touched = sum(met[join.name] for join in plan.joins for leaf in join.leaves if leaf.table is table)
-            is_touched = touched * _FEW <= self.engine.size(table.relation)
+            kept = plan.kept.get(table.relation.name)
+            is_touched = touched <= kept.rows if kept is not None else touched * _FEW <= self.engine.size(table.relation)
             repeated, *others = plan.conflict_steps(table, is_touched).items()
-            with self.engine.find_by_index(not is_touched):
+            with self.engine.find_by_index(not is_touched and kept is None):
                 self._make(dict([repeated]))
             rows += self._make(dict(others))
         self._has_lists = rows > 0 and self._make(plan.list_steps()) > 0

@@ -22,7 +22,7 @@ def connected(where: Any) -> Engine:
         return SQLite(where, False)
     driver = type(where).__module__.split(".")[0]
     if driver == "sqlalchemy":
-        return connected(_of_sqlalchemy(where))
+        return _of_sqlalchemy(where)
     if driver in ("psycopg2", "psycopg"):
         return Postgres(where, False)
     if driver in ("pymysql", "MySQLdb"):
@@ -31,12 +31,15 @@ def connected(where: Any) -> Engine:
                        "wanted" % (driver, type(where).__name__))
 
 
-def _of_sqlalchemy(where: Any) -> Any:
-    """The connection of a driver below an engine or a connection of SQLAlchemy."""
-    held = where.raw_connection() if hasattr(where, "raw_connection") else getattr(where, "connection", None)
+def _of_sqlalchemy(where: Any) -> Engine:
+    """Over an engine or a connection of SQLAlchemy. A connection that an engine lends is held till the end, so that no other gets it."""
+    is_lent = hasattr(where, "raw_connection")
+    held = where.raw_connection() if is_lent else getattr(where, "connection", None)
     for name in ("driver_connection", "dbapi_connection", "connection"):
         if getattr(held, name, None) is not None:
-            return getattr(held, name)
+            found = connected(getattr(held, name))
+            found.lent = held if is_lent else None
+            return found
     raise QueryRefused("%s of SQLAlchemy is no engine and no connection" % type(where).__name__)
 
 

@@ -20,7 +20,7 @@ class Engine(ABC):
     are. takes_in_names: whether IN may stand before the name
     of a table. reads_aliases: whether a condition may name what SELECT gives a name. has_quoted_texts: whether a name in quotes is a text
     where no column has it. using_converts: whether USING may change the type of its column. checks_types: whether
-    the columns of the parts of a union have to be known. reads_capitals: whether names of tables that differ in capitals may be two. most_elements: of one FROM.
+    the columns of the parts of a union have to be known. reads_capitals: whether names of tables that differ in capitals may be two. most_elements: of one FROM. is_untyped: whether a text beside a number stays one.
     """
 
     name: str
@@ -36,7 +36,10 @@ class Engine(ABC):
     checks_types = True
     reads_capitals = False
     most_elements = 64
+    is_untyped = False
     _has_tables = False
+    #: What lends the connection, and takes it back at the end by its `close`.
+    lent: Any = None
 
     # The catalogue. It is looked at anew for each question.
 
@@ -112,6 +115,14 @@ class Engine(ABC):
     @abstractmethod
     def can_make_tables(self) -> bool:
         """Whether temporary tables can be made in the transaction: it is our own, and they are gone with it."""
+
+    def keeping_fault(self, relation: Relation) -> Optional[str]:
+        """Why rows of a table can't be kept as they are in a temporary table, if they can't."""
+        return None
+
+    @abstractmethod
+    def writes(self, relation: Relation) -> object:
+        """What is another where rows of a table were written meanwhile in this transaction through this connection, other than by us."""
 
     def has_one_state(self) -> bool:
         """Whether several statements of the transaction see one state of the database."""

@@ -28,6 +28,9 @@ _SAME = frozenset("""abs acos adddate addtime ascii asin atan atan2 bin bit_coun
  weekofyear year yearweek regexp_instr regexp_replace regexp_substr json_extract json_value json_unquote now curdate curtime""".split())
 _AGGREGATES = frozenset("""avg bit_and bit_or bit_xor count group_concat max min std stddev stddev_pop stddev_samp sum var_pop var_samp variance
  json_arrayagg json_objectagg row_number rank dense_rank ntile lag lead first_value last_value nth_value percent_rank cume_dist median""".split())
+#: The counters of statements that may write rows; ours are none of them.
+_WRITING = ("insert insert_select update update_multi delete delete_multi replace replace_select load truncate call_procedure stmt_execute "
+            "execute_immediate execute_sql alter_table rename_table drop_table multi").split()
 #: The codes of drivers for texts.
 _TEXT_CODES = frozenset(["15", "249", "250", "251", "252", "253", "254"])
 
@@ -187,7 +190,7 @@ class MariaDB(DbApi):
             try:
                 yield
             finally:
-                self._depth -= 1
+                self._depth = max(0, self._depth - 1)  # the outer one may have ended
             return
         isolation, is_within = self.all("SELECT @@tx_isolation, @@in_transaction")[0]
         if is_within and isolation not in ("REPEATABLE-READ", "SERIALIZABLE"):
@@ -210,6 +213,10 @@ class MariaDB(DbApi):
 
     def can_make_tables(self) -> bool:
         return True
+
+    def writes(self, relation: Relation) -> object:
+        counts: Dict[str, str] = {name: count for name, count in self.all("SHOW SESSION STATUS LIKE 'Com\\_%'")}
+        return [counts.get("Com_" + name) for name in _WRITING]
 
     def execute(self, cursor: Any, sql: str, arguments: Mapping[str, Any]) -> None:
         if self._timeout is not None:

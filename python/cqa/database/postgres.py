@@ -38,6 +38,10 @@ reading(oid, is_hidden) AS (
   WHERE d.classid = 'pg_rewrite'::regclass AND d.refclassid = 'pg_proc'::regclass AND p.provolatile <> 'i' AND p.pronamespace <> 'pg_catalog'::regnamespace
   UNION SELECT e.reader, e.is_hidden OR r.is_hidden FROM reading r JOIN edges e ON e.read = r.oid)
 SELECT c.relname, r.is_hidden FROM reading r JOIN pg_class c ON c.oid = r.oid"""
+#: The locks on a table and what is below it by which this transaction wrote, or changed the table.
+_WRITES = """WITH RECURSIVE parts(oid) AS (SELECT %s::oid UNION SELECT inhrelid FROM pg_inherits JOIN parts ON inhparent = parts.oid)
+SELECT relation::bigint, mode FROM pg_locks WHERE pid = pg_backend_pid() AND locktype = 'relation' AND relation IN (SELECT oid FROM parts)
+AND database = (SELECT oid FROM pg_database WHERE datname = current_database()) AND mode NOT IN ('AccessShareLock', 'RowShareLock')"""
 _FAULTY_OPERATORS = """SELECT DISTINCT oprname FROM pg_operator o JOIN pg_proc p ON p.oid = o.oprcode
 WHERE p.provolatile = 'v' OR p.provolatile = 's' AND p.pronamespace <> 'pg_catalog'::regnamespace"""
 
@@ -174,7 +178,7 @@ class Postgres(DbApi):
             try:
                 yield
             finally:
-                self._depth -= 1
+                self._depth = max(0, self._depth - 1)  # the outer one may have ended
             return
         begins = self._status() == _IDLE
         self._begin(begins, timeout)
@@ -225,6 +229,12 @@ class Postgres(DbApi):
 
     def can_make_tables(self) -> bool:
         return self._can_make
+
+    def keeping_fault(self, relation: Relation) -> Optional[str]:
+        return "it was written in this transaction: commit that, or leave it out" if self.writes(relation) else None
+
+    def writes(self, relation: Relation) -> object:
+        return sorted(self.all(_WRITES, self._oids[relation.name]))
 
     def has_one_state(self) -> bool:
         return self._has_one_state

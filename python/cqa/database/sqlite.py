@@ -34,6 +34,7 @@ class SQLite(Engine):
     has_quoted_texts = True
     using_converts = False
     checks_types = False
+    is_untyped = True
 
     def __init__(self, connection: sqlite3.Connection, is_own: bool) -> None:
         if sqlite3.sqlite_version_info < _OLDEST:
@@ -42,6 +43,7 @@ class SQLite(Engine):
         self.is_own = is_own
         self._depth = 0
         self._is_own_transaction = False
+        self._own_changes = 0
         self._relations: Dict[Tuple[str, str], List[Tuple[str, str, str, str]]] = {}
         self._columns: Dict[str, Set[str]] = {}
         self._functions: Dict[str, List[Tuple[str, int, bool]]] = {}
@@ -216,9 +218,19 @@ class SQLite(Engine):
         # a temporary table would lose the collations of its columns
         return self._is_own_transaction and not self.saw_collation and not self.number("PRAGMA query_only")
 
+    def keeping_fault(self, relation: Relation) -> Optional[str]:
+        is_collated = any(column.is_collated for column in relation.columns)
+        return "SQLite would lose the collations of its columns: leave it out" if is_collated else None
+
+    def writes(self, relation: Relation) -> object:
+        schema = relation.name.split('"."')[0].strip('"')
+        return self.connection.total_changes - self._own_changes, self.number("PRAGMA %s.schema_version" % self.quoted(schema))
+
     def run(self, sql: str, arguments: Mapping[str, Any]) -> None:
+        before = self.connection.total_changes
         with _told():
             self.connection.execute(sql, dict(arguments)).close()
+        self._own_changes += self.connection.total_changes - before
 
     def rows(self, sql: str, arguments: Mapping[str, Any]) -> Iterator[Row]:
         cursor = self.connection.cursor()
