@@ -13,8 +13,6 @@ from .plan import Plan, Step
 from .query import Keyed
 
 _MOST_AT_ONCE = 500
-#: Keys are looked for among those that the joins met where these are at most this part of a table's rows.
-_FEW = 10
 
 
 class Candidate(NamedTuple):
@@ -140,18 +138,18 @@ class ByTables(Evaluation):
         for table in plan.watched:
             touched = sum(met[join.name] for join in plan.joins for leaf in join.leaves if leaf.table is table)
             kept = plan.kept.get(table.relation.name)
-            is_touched = touched <= kept.rows if kept is not None else touched * _FEW <= self.engine.size(table.relation)
+            is_touched = touched <= kept.rows if kept is not None else touched * self.engine.few <= self.engine.size(table.relation)
             repeated, *others = plan.conflict_steps(table, is_touched).items()
             with self.engine.find_by_index(not is_touched and kept is None):
                 self._make(dict([repeated]))
             rows += self._make(dict(others))
         self._has_lists = rows > 0 and self._make(plan.list_steps()) > 0
-        text = plan.sure(self._has_lists)
+        text = plan.sure(self._has_lists, self.engine.looks_up)
         self.statements.append(text)
-        for number, *values in self.engine.rows(text, {}):
-            if number:
-                self._done.add(number)
-            yield tuple(values)
+        for row in self.engine.rows(text, {}):
+            if row[0]:
+                self._done.add(row[0])
+            yield tuple(row[1:])
 
     def candidates(self) -> Iterator[Candidate]:
         if not self._has_lists:

@@ -205,7 +205,7 @@ class Postgres(DbApi):
             self.run("BEGIN ISOLATION LEVEL REPEATABLE READ", {})
         else:
             self.run("SET TRANSACTION ISOLATION LEVEL REPEATABLE READ", {})
-        settings = {"jit": "off", "cursor_tuple_fraction": "1"}
+        settings = {"jit": "off", "cursor_tuple_fraction": "1", "default_statistics_target": "10"}  # the last for our own tables
         if timeout is not None:
             settings["statement_timeout"] = str(max(1, int(timeout * 1000)))
         version, isolation, is_read_only, may = self.all(
