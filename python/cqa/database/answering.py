@@ -190,6 +190,7 @@ class ByStatement(Evaluation):
             steps.update(plan.conflict_steps(table, True))
         if plan.width:
             steps.update(plan.list_steps())
+        steps.update(plan.clean_step())  # MariaDB takes no WITH within a step
         return {name: (step.columns, step.select) for name, step in steps.items()}
 
     def sure(self) -> Iterator[Row]:
@@ -198,7 +199,7 @@ class ByStatement(Evaluation):
         ids, null = 3 * plan.width, self.engine.null_number
         names = ", ".join(["cqa_m", *plan.columns, *[null] * ids])
         text = with_steps(self._steps, self.engine.materialized)
-        text += "SELECT 1, %s FROM (%s) x" % (names, plan.sure(plan.width > 0))
+        text += "SELECT 1, %s FROM (%s) x" % (names, plan.sure(plan.width > 0, is_clean_made=True))
         if plan.width:
             text += " UNION ALL SELECT 2, %s FROM cqa_n" % ", ".join(["cqa_n", *plan.columns, *["cqa_%s%d" % (kind, at) for at in range(plan.width) for kind in "brz"]])
         nulls = plan.nulls()
@@ -223,7 +224,7 @@ class ByStatement(Evaluation):
                 yield candidate
 
     def _over_conflicts(self, select: str) -> Iterator[Row]:
-        steps = {name: step for name, step in self._steps.items() if name[:5] not in ("cqa_l", "cqa_n")}
+        steps = {name: step for name, step in self._steps.items() if name[:5] not in ("cqa_l", "cqa_n", "cqa_c")}
         return self.engine.rows(with_steps(steps, self.engine.materialized) + select, self.arguments)
 
 

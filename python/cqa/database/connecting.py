@@ -4,6 +4,7 @@ from __future__ import annotations
 
 import importlib
 import importlib.util
+import select
 import sqlite3
 from typing import Any
 
@@ -59,5 +60,26 @@ def _opened(where: str) -> Engine:
 def heed_interrupts() -> None:
     """Makes Ctrl-C end a statement that runs, for this whole process, where a driver would wait for its end."""
     if importlib.util.find_spec("psycopg2") is not None:
-        extras = importlib.import_module("psycopg2.extras")
-        importlib.import_module("psycopg2.extensions").set_wait_callback(extras.wait_select)
+        importlib.import_module("psycopg2.extensions").set_wait_callback(_wait)
+
+
+def _wait(connection: Any) -> None:
+    """Waits for what psycopg2 runs. Ctrl-C cancels it, and is raised when that is done."""
+    extensions = importlib.import_module("psycopg2.extensions")
+    is_interrupted = False
+    while True:
+        try:
+            state = connection.poll()
+            if state == extensions.POLL_OK:
+                break
+            number = connection.fileno()
+            select.select([number] if state == extensions.POLL_READ else [], [number] if state == extensions.POLL_WRITE else [], [], 1.0)
+        except KeyboardInterrupt:
+            is_interrupted = True
+            connection.cancel()
+        except extensions.QueryCanceledError:
+            if is_interrupted:
+                raise KeyboardInterrupt from None
+            raise
+    if is_interrupted:
+        raise KeyboardInterrupt

@@ -124,9 +124,10 @@ class Engine(ABC):
         """Why rows of a table can't be kept as they are in a temporary table, if they can't."""
         return None
 
-    @abstractmethod
     def writes(self, relation: Relation) -> object:
-        """What is another where rows of a table were written meanwhile in this transaction through this connection, other than by us."""
+        """What is another where rows of a table were written meanwhile in this transaction through this connection, other than by us. It is
+        asked only where tables can be made."""
+        return None
 
     def has_one_state(self) -> bool:
         """Whether several statements of the transaction see one state of the database."""

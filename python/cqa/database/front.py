@@ -296,9 +296,9 @@ class Database:
         engine, before = self._engine, self._kept
         with engine.transaction(self.timeout), ExitStack() as stack:
             if prepare:
+                engine.begin_question([])
                 if not self._tables or not engine.can_make_tables():
                     raise QueryRefused("prepare: no temporary tables can be made here: ask without it")
-                engine.begin_question([])
                 self._kept = stack.enter_context(prepared(engine, keyed_tables(engine, self._keys), prepare, before))
             try:
                 yield self

@@ -10,7 +10,7 @@ from urllib.parse import unquote, urlsplit
 
 from ..errors import DatabaseFault, QueryRefused
 from .dbapi import DbApi
-from .engine import Row, named
+from .engine import Row
 from .query import Branch, Column, Relation
 from .tokens import Lexicon, Token, folded
 
@@ -28,9 +28,6 @@ _SAME = frozenset("""abs acos adddate addtime ascii asin atan atan2 bin bit_coun
  weekofyear year yearweek regexp_instr regexp_replace regexp_substr json_extract json_value json_unquote now curdate curtime""".split())
 _AGGREGATES = frozenset("""avg bit_and bit_or bit_xor count group_concat max min std stddev stddev_pop stddev_samp sum var_pop var_samp variance
  json_arrayagg json_objectagg row_number rank dense_rank ntile lag lead first_value last_value nth_value percent_rank cume_dist median""".split())
-#: The counters of statements that may write rows; ours are none of them.
-_WRITING = ("insert insert_select update update_multi delete delete_multi replace replace_select load truncate call_procedure stmt_execute "
-            "execute_immediate execute_sql alter_table rename_table drop_table multi").split()
 #: The codes of drivers for texts.
 _TEXT_CODES = frozenset(["15", "249", "250", "251", "252", "253", "254"])
 
@@ -50,8 +47,6 @@ class MariaDB(DbApi):
     def __init__(self, connection: Any, is_own: bool) -> None:
         super().__init__(connection, is_own)
         self._timeout: Optional[float] = None
-        self._can_make = False
-        self._made: List[str] = []
         self._sorted = 0
 
     @classmethod
@@ -206,17 +201,12 @@ class MariaDB(DbApi):
             self._depth = 0
             self._timeout = None
             with suppress(Exception):  # a connection that is lost has no transaction
-                for name in list(self._made):
-                    self.drop_table(name)
                 if not is_within:
                     self.connection.rollback()
 
     def can_make_tables(self) -> bool:
-        return True
-
-    def writes(self, relation: Relation) -> object:
-        counts: Dict[str, str] = {name: count for name, count in self.all("SHOW SESSION STATUS LIKE 'Com\\_%'")}
-        return [counts.get("Com_" + name) for name in _WRITING]
+        # CREATE TABLE .. SELECT locks rows, and reads those committed last in place of the snapshot's
+        return False
 
     def execute(self, cursor: Any, sql: str, arguments: Mapping[str, Any]) -> None:
         if self._timeout is not None:
@@ -233,16 +223,6 @@ class MariaDB(DbApi):
                 yield tuple(row)
         finally:
             cursor.close()
-
-    def make_table(self, name: str, columns: Sequence[str], select: str, key: Sequence[str], arguments: Mapping[str, Any]) -> int:
-        self.run("CREATE TEMPORARY TABLE %s AS %s" % (name, named(columns, select, name)), arguments)
-        self._made.append(name)
-        return self.number("SELECT count(*) FROM %s" % name)
-
-    def drop_table(self, name: str) -> None:
-        self.run("DROP TEMPORARY TABLE IF EXISTS %s" % name, {})
-        if name in self._made:
-            self._made.remove(name)
 
     def size(self, relation: Relation) -> int:
         return self.number("SELECT count(*) FROM %s" % relation.name)

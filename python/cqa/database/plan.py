@@ -174,11 +174,16 @@ class Plan:
             texts.append("SELECT %s FROM %s w%s" % (", ".join(self._values("w")), join.name, " WHERE " + " AND ".join(conditions) if conditions else ""))
         return " UNION ALL ".join(texts)
 
-    def sure(self, has_lists: bool, is_looked_up: bool = False) -> str:
+    def clean_step(self) -> Dict[str, Step]:
+        """`clean` as a step."""
+        return {"cqa_c": Step(self.columns, self.clean())}
+
+    def sure(self, has_lists: bool, is_looked_up: bool = False, is_clean_made: bool = False) -> str:
         """The candidates with a witness that no conflict touches, each once, with their number among those that have lists too, or 0.
-        is_looked_up: the number is looked up for each, by the index of `cqa_n`, and not found by grouping both together."""
+        is_looked_up: the number is looked up for each, by the index of `cqa_n`, and not found by grouping both together. is_clean_made:
+        whether `cqa_c` is a step before."""
         names = ", ".join(self.columns)
-        clean = "WITH cqa_c(%s) AS (%s) " % (names, self.clean())
+        clean = "" if is_clean_made else "WITH cqa_c(%s) AS (%s) " % (names, self.clean())
         if not has_lists:
             return "%sSELECT DISTINCT 0 AS cqa_m, %s FROM cqa_c" % (clean, names)
         if is_looked_up:

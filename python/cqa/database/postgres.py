@@ -60,6 +60,7 @@ class Postgres(DbApi):
         self._oids: Dict[str, int] = {}
         self._faulty_operators: Optional[Set[str]] = None
         self._cursors = 0
+        self._transactions = 0
         self._can_make = False
         self._has_one_state = False
 
@@ -80,6 +81,9 @@ class Postgres(DbApi):
     def said(self, fault: BaseException) -> str:
         text = super().said(fault)
         return re.sub(r"^ERROR:\s*", "", text)
+
+    def is_of_text(self, fault: BaseException) -> bool:
+        return not isinstance(fault, self.module.OperationalError)  # as a deadlock, or a timeout
 
     def cursor(self) -> Any:
         return self.module.ClientCursor(self.connection) if hasattr(self.module, "ClientCursor") else self.connection.cursor()
@@ -183,10 +187,12 @@ class Postgres(DbApi):
         begins = self._status() == _IDLE
         self._begin(begins, timeout)
         self._depth = 1
+        self._transactions += 1
         try:
             yield
         finally:
             self._depth = 0
+            self._transactions += 1
             self._can_make = False
             with suppress(Exception):  # a connection that is lost has no transaction
                 self._end(begins)
@@ -251,11 +257,13 @@ class Postgres(DbApi):
 
     def rows(self, sql: str, arguments: Mapping[str, Any]) -> Iterator[Row]:
         self._cursors += 1
-        name = "cqa_f%d" % self._cursors
+        name, within = "cqa_f%d" % self._cursors, self._transactions
         self.run("DECLARE %s NO SCROLL CURSOR FOR %s" % (name, sql), arguments)
         cursor = self.cursor()
         try:
             while True:
+                if self._transactions != within:
+                    raise DatabaseFault("PostgreSQL: the snapshot ended before its answers had come")
                 with self.told():
                     cursor.execute("FETCH %d FROM %s" % (_PIECE, name))
                     rows = cursor.fetchall()
@@ -263,8 +271,9 @@ class Postgres(DbApi):
                 if len(rows) < _PIECE:
                     return
         finally:
-            with suppress(self.error):  # where a statement failed, it is closed already
-                cursor.execute("CLOSE %s" % name)
+            if self._transactions == within:
+                with suppress(self.error):  # where a statement failed, it is closed already
+                    cursor.execute("CLOSE %s" % name)
             cursor.close()
 
     def make_table(self, name: str, columns: Sequence[str], select: str, key: Sequence[str], arguments: Mapping[str, Any]) -> int:
