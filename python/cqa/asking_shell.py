@@ -14,6 +14,7 @@ from .errors import QueryRefused
 
 #: One word that begins with -, with its value behind = where it has one.
 _OPTION = re.compile(r"\s*(-o|--[a-z-]+)(?:=|\s+|$)")
+_PASSWORD = re.compile(r"(//[^:@/]*):[^/]*@")
 _VALUE = re.compile(r"('[^']*'|\"[^\"]*\"|\S+)\s*")
 _FLAGS = ("--possible", "--disputed", "--clean-first", "--explain", "--show-sql", "--strict-keys", "--help")
 
@@ -49,7 +50,7 @@ class Asking:
             self._database, self._name = database, told.db or ", ".join(told.csv)
         if self._database is None:
             raise QueryRefused("no database is open: \\database sqlite:shop.db customer=id orders=oid,line")
-        return "\\ask asks %s" % self._name
+        return "\\ask asks %s" % _PASSWORD.sub(r"\1@", self._name)
 
     def ask(self, text: str) -> None:
         """Answers `\\ask [OPTIONS] SELECT ..`: the options are those of the command, and the query stands as it is to the end of the line."""

@@ -16,6 +16,7 @@ import unittest
 import support
 from support import PROGRAM, ProgramCase, lines
 
+from cqa.asking_shell import Asking
 from cqa.session import Session
 from cqa.shell import Shell
 
@@ -65,6 +66,14 @@ class ByLines(ProgramCase):
         self.assertEqual(lines(out)[:3], ["\\ask asks customer=crm.csv, customer=shop.csv", "name", "Ada"])
         self.assertEqual({line for line in lines(out) if line.startswith("{")}, {'{"city": "Oslo"}', '{"city": "Bergen"}'})
         self.assertEqual(lines(out)[-2:], ['keep customer {"id": 1, "name": "Ada", "city": "Bergen", "source": "shop"}', "created staff"])
+
+    def test_a_password_is_not_shown(self) -> None:
+        asking = Asking()
+        self.file("crm.csv", "id\n1\n")
+        asking.open("--csv t=%s t=id" % self.path("crm.csv"))
+        asking._name = "postgresql://me:a:b@c@host/shop"
+        self.assertEqual(asking.open(""), "\\ask asks postgresql://me@host/shop")
+        asking.close()
 
     def test_sql_that_is_not_taken(self) -> None:
         self.file("crm.csv", "id,name\n1,Ada\n")
