@@ -29,25 +29,46 @@ def parser() -> argparse.ArgumentParser:
         prog="cqa ask", description="Certain answers of SQL over a database that breaks its keys: those that hold whichever row of each key is right.",
         epilog="Example: cqa ask --db sqlite:shop.db --key customer=id --key orders=oid \"select name from customer where city like 'O%%'\"")
     words.add_argument("query", nargs="?", metavar="QUERY", help="the SQL, a file that has it, or - for standard input")
+    add_place(words)
+    add_wishes(words)
+    return words
+
+
+def add_place(words: argparse.ArgumentParser) -> None:
+    """The words that say which database is asked, and by which keys."""
     words.add_argument("--db", metavar="WHERE", help="the database: sqlite:FILE, postgresql://.., mysql://..")
     words.add_argument("--csv", action="append", default=[], metavar="TABLE=LIST", help="a CSV list with a header line as a table; several lists of one table have a column source")
     words.add_argument("--key", action="append", default=[], metavar="TABLE=COLUMNS", help="a table's key: customer=id, orders=oid,line")
     words.add_argument("--keys", metavar="FILE", help="keys in a TOML file: behind [keys] lines as customer = \"id\"")
+    words.add_argument("--null-key", choices=["refuse", "own", "drop"], default="refuse", help="rows with a NULL in their key (refuse)")
+    words.add_argument("--strict-keys", action="store_true", help="refuse a query that reads a table without a key")
+    words.add_argument("--timeout", type=float, metavar="SECONDS", help="what a statement may take")
+
+
+def add_wishes(words: argparse.ArgumentParser) -> None:
+    """The words that say what is wanted of a query, and how it is written."""
     kinds = words.add_mutually_exclusive_group()
     kinds.add_argument("--possible", action="store_true", help="all answers that hold for some choice of rows")
     kinds.add_argument("--disputed", action="store_true", help="the possible answers that aren't certain")
     kinds.add_argument("--against", metavar="ROW", help="rows to keep so that this row, written as in CSV, is no answer")
     kinds.add_argument("--clean-first", action="store_true", help="the keys in conflict on which most disputed answers hang")
-    kinds.add_argument("--explain", action="store_true", help="what is taken as certain, used columns, conflicts, and the SQL that is sent")
+    kinds.add_argument("--explain", action="store_true", help="what is taken as certain, used columns, conflicts, the class, and the SQL that is sent")
     kinds.add_argument("--conflicts", metavar="TABLE", help="the rows of a table's keys in conflict, without a query")
     words.add_argument("--format", choices=["csv", "table", "json"], help="how answers are written: table on a terminal, else csv")
     words.add_argument("-o", "--output", metavar="FILE", help="the answers' file, in place of standard output")
     words.add_argument("--param", action="append", default=[], metavar="NAME=VALUE", help="the value of a parameter :NAME of the query")
-    words.add_argument("--null-key", choices=["refuse", "own", "drop"], default="refuse", help="rows with a NULL in their key (refuse)")
-    words.add_argument("--strict-keys", action="store_true", help="refuse a query that reads a table without a key")
-    words.add_argument("--timeout", type=float, metavar="SECONDS", help="what a statement may take")
     words.add_argument("--show-sql", action="store_true", help="write the SQL that is sent to standard error")
-    return words
+
+
+def opened(told: argparse.Namespace) -> Database:
+    """The database that the words of `add_place` say. Raises QueryRefused, DatabaseFault or LoadFault."""
+    if bool(told.db) == bool(told.csv):
+        raise QueryRefused("one of --db and --csv is wanted")
+    keys = {**(read_keys(told.keys) if told.keys else {}), **told_keys(told.key)}
+    if not keys:
+        raise QueryRefused("no key is told: --key TABLE=COLUMN; with no key all is certain")
+    where: Any = told.db if told.db else database_of_lists(told_lists(told.csv))
+    return Database(where, keys, null_key=told.null_key, strict_keys=told.strict_keys, timeout=told.timeout)
 
 
 def main(arguments: Sequence[str]) -> int:
@@ -56,21 +77,26 @@ def main(arguments: Sequence[str]) -> int:
     told = words_told(words, arguments)
     if bool(told.db) == bool(told.csv):
         words.error("one of --db and --csv is wanted")
-    if (told.query is None) == (told.conflicts is None):
-        words.error("a query is wanted, or --conflicts TABLE")
-    keys = {**(read_keys(told.keys) if told.keys else {}), **told_keys(told.key)}
-    if not keys:
-        raise QueryRefused("no key is told: --key TABLE=COLUMN; with no key all is certain")
-    where: Any = told.db if told.db else database_of_lists(told_lists(told.csv))
+    _check_query(words, told)
     heed_interrupts()
-    with Database(where, keys, null_key=told.null_key, strict_keys=told.strict_keys, timeout=told.timeout) as database:
-        query = "" if told.query is None else _query_text(told.query)
-        with written(told.output) if told.output else standard_output() as out:
-            _write(database, query, _parameters(told.param, bool(told.csv) or told.db.startswith("sqlite")), told, out)
+    with opened(told) as database:
+        answer(database, told)
     return 0
 
 
-def _query_text(word: str) -> str:
+def answer(database: Database, told: argparse.Namespace) -> None:
+    """Answers what the words of `add_wishes` say of a query, and writes it."""
+    query = "" if told.query is None else query_text(told.query)
+    with written(told.output) if told.output else standard_output() as out:
+        _write(database, query, _parameters(told.param, database.is_untyped), told, out)
+
+
+def _check_query(words: argparse.ArgumentParser, told: argparse.Namespace) -> None:
+    if (told.query is None) == (told.conflicts is None):
+        words.error("a query is wanted, or --conflicts TABLE")
+
+
+def query_text(word: str) -> str:
     """The SQL that a word says: itself, what a file has, or standard input."""
     if word == "-":
         return sys.stdin.read()

@@ -12,12 +12,15 @@ import warnings
 from typing import Dict, List, NamedTuple, Optional, Sequence, Tuple
 
 from . import page, underway
+from .answered import Answered, pair_part
 from .answers import Classification, Explanation, Range, against, explanation
+from .asking import add_place
 from .conflicts import Conflicts, Disputed
 from .drawing import HEADS, attack_graph
 from .errors import Refused, ScaleFault, ScaleWarning
 from .files import check_output, standard_output, written
 from .origins import Origin
+from .report_sql import sql_parts
 from .rows import Cell, Rows, cell_text
 from .running import QUERY_VERBS, Answer, loaded
 from .scripts import Schema, aggregate_of, parts_of, quoted, selected, tokens, without_comments
@@ -54,14 +57,6 @@ class Question(NamedTuple):
     place: str
     verbs: Tuple[str, ...]
     is_range: bool = False
-
-
-class Answered(NamedTuple):
-    """A question with its part of the page. words: it, in a line. said: its answer, in a line."""
-
-    words: str
-    said: str
-    part: str
 
 
 def questions_of(answers: Sequence[Answer]) -> List[Question]:
@@ -113,7 +108,11 @@ def main(arguments: Sequence[str]) -> int:
     words.add_argument("--source", metavar="COLUMN", help="the column of sources, which is no conflict: else that which load made, if it did")
     words.add_argument("--title", metavar="TEXT", help="the page's title, in place of the files' names")
     words.add_argument("-o", "--output", metavar="FILE", help="the page's file, in place of standard output")
+    words.add_argument("--sql", action="append", default=[], metavar="QUERY", help="a question in SQL, or a file that has it, over the database of --db or the lists of --csv")
+    add_place(words)
     told = words_told(words, arguments)
+    if not told.sql and (told.db or told.csv or told.key or told.keys):
+        words.error("--db, --csv, --key and --keys are for --sql QUERY")
     with warnings.catch_warnings():
         warnings.simplefilter("ignore", ScaleWarning)  # what statements name is told where they are run
         return _main(told)
@@ -134,6 +133,7 @@ def _main(told: argparse.Namespace) -> int:
             print("cqa report: no table has a column %s; nothing is written" % told.source, file=sys.stderr)
             return 1
         questions.answer(session)
+        questions.parts += sql_parts(told, len(questions.parts)) if told.sql else []
         text = report(session, questions.parts, [os.path.basename(path) for path in told.files], told.title, told.source)
     with written(told.output) if told.output else standard_output() as out:
         out.write(text.encode("utf-8", "replace"))
@@ -275,8 +275,7 @@ def _answer_part(certain: Rows, disputed: Rows) -> str:
     if not certain.columns:
         sure = "Yes, whichever rows are right." if certain else "No, whichever rows are right."
         return "<h3>Answer</h3><p>%s</p>" % ("Yes for some choice of rows, no for others." if disputed else sure)
-    return '<div class="pair"><div><h3>Certain rows: %s</h3>%s</div><div><h3>Disputed rows: %s</h3>%s</div></div>' % (
-        page.number(len(certain)), page.table(certain.columns, certain), page.number(len(disputed)), page.table(disputed.columns, disputed))
+    return pair_part(certain.columns, certain, disputed)
 
 
 def _class_part(query: str, classified: Classification) -> str:

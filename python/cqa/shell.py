@@ -13,6 +13,7 @@ import warnings
 from types import FrameType
 from typing import Iterator, List, Optional, Sequence, Set
 
+from .asking_shell import Asking
 from .errors import CqaError, Ended, LoadFault, Refused, ScaleFault, ScaleWarning
 from .files import said
 from .habits import advice_for
@@ -30,6 +31,8 @@ _COMMANDS = """\
 \\load --table T --key K --source NAME=LIST ..   loads CSV lists (\\load --help)
 \\save FILE        keeps the tables in a file; cqa shell FILE goes on with them
 \\d [TABLE]        the tables, or the columns of one
+\\database WHERE TABLE=COLUMNS ..   a database of your own with its keys: \\database sqlite:shop.db customer=id
+\\ask [--disputed ..] SELECT ..     the certain answers of SQL over it, in one line, with the options of `cqa ask`
 \\timing           how long each statement takes, or no more
 \\q                ends (and so do quit, exit and Ctrl-D)
 help [STATEMENT]  the statements, or one of them; each ends with ;
@@ -48,6 +51,7 @@ class Shell:
         self._is_timing = False
         self._schemas: List[Schema] = []
         self._shown_notes: Set[str] = set()
+        self._asking = Asking()
         self._look()
 
     @property
@@ -180,6 +184,8 @@ class Shell:
 
     def _command(self, line: str) -> None:
         try:
+            if self._asks(line):
+                return
             words = shlex.split(line.rstrip(";").lstrip("\\"))
             words[:1] = [line[:line.startswith("\\")] + word for word in words[:1]] or [""]
             if words[0] == "\\load":
@@ -202,6 +208,30 @@ class Shell:
             if isinstance(fault, Ended):
                 raise
             self._fault("a quote has no end" if str(fault) == "No closing quotation" else said(fault))
+
+    def _asks(self, line: str) -> bool:
+        """Takes `\\database` and `\\ask`, whose texts are read as they are written."""
+        word, _, text = line.partition(" ")
+        if word.rstrip(";") == "\\database":
+            print(self._asking.open(text.rstrip().rstrip(";")))
+        elif word.rstrip(";") == "\\ask":
+            sys.stdout.flush()
+            began = time.monotonic()
+            try:
+                self._asking.ask(text)
+            except KeyboardInterrupt:
+                self._fault("interrupted")
+            except SystemExit:  # help was asked for
+                return True
+            if self._is_timing:
+                print("%.1f ms" % (1000 * (time.monotonic() - began)))
+        else:
+            return False
+        return True
+
+    def close(self) -> None:
+        """Closes the database that is asked, if one is."""
+        self._asking.close()
 
     def _load(self, words: Sequence[str]) -> None:
         try:
@@ -253,7 +283,7 @@ class Shell:
     def complete(self, begin: str) -> List[str]:
         """The words, tables and columns that begin so."""
         names = {name for schema in self._schemas for name in (schema.table, *schema.columns)}
-        commands = {"\\load", "\\save", "\\d", "\\timing", "\\q", "help", "quit"} if not self.is_open else set()
+        commands = {"\\load", "\\save", "\\d", "\\database", "\\ask", "\\timing", "\\q", "help", "quit"} if not self.is_open else set()
         return sorted(word for word in set(WORDS) | names | commands if word.startswith(begin))
 
 
@@ -341,8 +371,7 @@ def main(arguments: Sequence[str]) -> int:
     session = loaded(words_told(words, arguments).files, is_apart=True)
     if session is None:
         return 1
-    with session:
-        shell = Shell(session)
+    with session, contextlib.closing(Shell(session)) as shell:
         if sys.stdin.isatty():
             signal.signal(signal.SIGHUP, _hung_up)
             _by_hand(shell)

@@ -246,6 +246,113 @@ class WithoutJudge(DatabaseCase):
             list(database.possible("select a.oid from orders a, orders b, orders c where a.amount + b.amount + c.amount < 0"))
         self.assertEqual(set(database.possible("select name from customer where id = 3")), {("Cy",)})
 
+    def test_rows_in_conflict_are_kept_for_a_snapshot(self) -> None:
+        asked = ["select name, city from customer where city <> 'Hamar'", "select a.city, b.city from customer a, customer b where a.id = b.id",
+                 "select name from customer where id in (select cid from orders where amount > 6)"]
+        before = list(self.connection.iterdump())
+        wanted = [self.possible(sql) for sql in asked]
+        with self.database.snapshot(prepare=["customer", "orders"]):
+            self.assertEqual([self.possible(sql) for sql in asked], wanted)
+            with self.database.snapshot(prepare=["orders"]):
+                self.assertEqual(self.possible(asked[2]), wanted[2])
+            self.assertEqual(self.possible(asked[2]), wanted[2])
+            kept = self.connection.execute("select name from sqlite_temp_master where name like 'cqa_h%' and type = 'table' order by 1").fetchall()
+            self.assertEqual(kept, [("cqa_h0",), ("cqa_h1",)])
+        self.assertEqual([self.possible(sql) for sql in asked], wanted)
+        self.assertEqual((list(self.connection.iterdump()), self.connection.in_transaction), (before, False))
+        self.assertEqual(self.connection.execute("select count(*) from sqlite_temp_master").fetchone(), (0,))
+
+    def test_kept_rows_are_never_old(self) -> None:
+        for sql in ("insert into customer values (3, 'Cy', 'Hamar', null)", "update customer set id = 2 where id = 3", "delete from customer",
+                    "alter table customer add column more text"):
+            with self.subTest(sql), self.database.snapshot(prepare=["customer"]):
+                self.assertEqual(self.possible("select count from (select 1 as count) x, customer"), {(1,)})
+                self.connection.execute(sql)
+                self.assertIn("begin another snapshot", self.refused("select city from customer"))
+                self.assertEqual(self.possible("select cid from orders where oid = 1"), {(1,)})
+
+    def test_where_no_rows_can_be_kept(self) -> None:
+        self.connection.execute("create table folk (id integer, name text collate nocase)")
+        database = Database(self.connection, {**KEYS, "folk": "id"})
+        self.connection.execute("begin")
+        for where, table, told in ((self.database, "customer", "no temporary tables can be made here"),
+                                   (Database(self.connection, KEYS, tables=False), "customer", "no temporary tables")):
+            with self.assertRaisesRegex(QueryRefused, told), where.snapshot(prepare=[table]):
+                self.fail("it isn't taken")
+        self.connection.execute("rollback")
+        for where, table, told in ((self.database, "city", "no key is told of city"), (self.database, "nobody", "no table nobody"),
+                                   (database, "folk", "lose the collations")):
+            with self.subTest(table), self.assertRaisesRegex(QueryRefused, told), where.snapshot(prepare=["customer", table]):
+                self.fail("it isn't taken")
+        self.assertEqual(self.connection.execute("select count(*) from sqlite_temp_master").fetchone(), (0,))
+
+    def test_a_snapshot_that_ends_before_its_answers(self) -> None:
+        with self.database.snapshot():
+            answers = self.database.possible("select a.oid, b.oid from orders a, orders b")
+            next(answers)
+        with self.assertRaises(DatabaseFault):
+            list(answers)
+        self.assertEqual(self.possible("select name from customer where id = 3"), {("Cy",)})
+
+    def test_a_full_disk(self) -> None:
+        self.connection.executemany("insert into orders values (?, ?, ?)", [(at, at % 7, at) for at in range(10, 3000)])
+        self.connection.commit()
+        self.connection.execute("pragma temp.max_page_count = 8")
+        with self.assertRaisesRegex(DatabaseFault, "full"):
+            list(self.database.possible("select oid, amount from orders"))
+        self.connection.execute("pragma temp.max_page_count = 100000")
+        self.assertEqual(len(self.possible("select oid, amount from orders")), 2994)
+
+    def test_a_connection_that_is_closed_and_one_that_is_locked_out(self) -> None:
+        path = self.path("shop.db")
+        with sqlite3.connect(path) as other:
+            self.connection.backup(other)
+        own = sqlite3.connect(path, timeout=0.1)
+        database = Database(own, KEYS)
+        other.execute("begin exclusive")
+        with self.assertRaisesRegex(DatabaseFault, "locked"):
+            list(database.possible("select name from customer"))
+        other.rollback()
+        self.assertEqual(len(list(database.possible("select name from customer"))), 3)
+        own.close()
+        with self.assertRaisesRegex(DatabaseFault, "closed"):
+            list(database.possible("select name from customer"))
+        other.close()
+
+    def test_a_file_that_is_no_database_any_more(self) -> None:
+        path = self.path("shop.db")
+        with sqlite3.connect(path) as other:
+            self.connection.backup(other)
+        other.close()
+        with Database(path, KEYS) as database:
+            with open(path, "r+b") as file:
+                file.write(b"x" * 8192)
+            with self.assertRaises(DatabaseFault):
+                list(database.possible("select name from customer"))
+
+    def test_keys_that_are_none(self) -> None:
+        for keys, told in (({"customer": "nothing"}, "no column nothing; it has id, name, city, since"), ({"oslo": "id"}, "it is a view"), ({"nobody": "id"}, "no table nobody"),
+                           ({"customer": ["id", "ID"]}, "columns are wanted, each once"), ({"customer": []}, "columns are wanted"), ({"customer": "id", "CUSTOMER": "id"}, "told twice")):
+            with self.subTest(keys), self.assertRaisesRegex(QueryRefused, told):
+                Database(self.connection, keys)
+
+    def test_columns_that_are_called_as_ours(self) -> None:
+        self.connection.executescript('create table odd (id integer, cqa_b text, "cqa_k0" integer, name text); insert into odd values (1, \'a\', 1, \'x\'), (1, \'b\', 2, \'x\')')
+        database = Database(self.connection, {"odd": "id"})
+        for prepare in ([], ["odd"]):
+            with database.snapshot(prepare=prepare):
+                self.assertEqual(list(database.possible("select name from odd")), [("x",)])
+                with self.assertRaisesRegex(QueryRefused, "begin with cqa_ are ours"):
+                    list(database.possible("select cqa_b from odd"))
+
+    def test_names_in_capitals_and_in_quotes(self) -> None:
+        self.connection.executescript('attach \':memory:\' as "My Shop"; create table "My Shop"."Order By" ("ID" integer, "Näme" text, "a.b" text);'
+                                      'insert into "My Shop"."Order By" values (1, \'é%\', \'x\'), (1, \'é%\', \'y\')')
+        for keys in ({'"My Shop"."Order By"': '"ID"'}, {"Order By": "id"}):
+            database = Database(self.connection, keys)
+            self.assertEqual(list(database.possible('select o."Näme" from "Order By" o where o."Näme" like :n || \'%\' and O.id = 1', n="é")), [("é%",)])
+            self.assertEqual(set(database.possible('select "a.b" from "my shop"."order by"')), {("x",), ("y",)})
+
     def test_a_hundred_columns(self) -> None:
         names = ["c%d" % at for at in range(100)]
         self.connection.execute("create table wide (id integer, %s)" % ", ".join(names))
@@ -317,6 +424,37 @@ class Judged(DatabaseCase):
     def test_clean_first(self) -> None:
         found = self.database.clean_first("select o.oid, c.name from orders o, customer c where c.id = o.cid and c.city <> 'Bergen'")
         self.assertEqual(found, [("orders", (2,), 2), ("customer", (1,), 1)])
+
+    def test_kept_rows_change_no_answer(self) -> None:
+        asked = ["select distinct city from customer", "select cid from orders where amount > 4", "select a.city from customer a, customer b where a.id = b.id",
+                 "select name from customer where id in (select cid from orders where oid = 2)", "select name from customer union select region from city"]
+        wanted = [self.sets(sql) for sql in asked]
+        against = self.database.against(("Bergen",), asked[0])
+        with self.database.snapshot(prepare=["customer", "orders"]):
+            found = [(set(self.database.certain(sql)), set(self.database.disputed(sql))) for sql in asked]
+            self.assertEqual(self.database.against(("Bergen",), asked[0]), against)
+            self.assertEqual(self.database.clean_first("select cid, amount from orders")[0].key, (2,))
+        self.assertEqual(found, wanted)
+
+    def test_the_class_of_a_query(self) -> None:
+        for sql, told in (
+                ("select name from customer where city like 'O%' and id between 1 and 7", "class: first-order"),
+                ("select c.name from customer c join orders o on o.cid = c.id and o.amount > 3", "class: first-order; orders attacks customer, weak"),
+                ("select 1 from customer c, orders o where c.city = o.amount", "class: conp-complete; customer attacks orders, strong; orders attacks customer, strong"),
+                ("select c.name from customer c join city t on t.city = c.city where region = 'East'", "class: first-order; customer attacks t, weak"),
+                ("select name from customer where exists (select 1 from orders where cid = customer.id)", "class: first-order; orders attacks customer, weak"),
+                ("select a.id from customer a, customer b where a.city = b.city", "class: none is known for a table that stands twice: customer"),
+                ("select id from customer union select oid from orders", "class: none is known for a union"),
+                ("select upper(name) from customer", "class: none is known for an expression in the select list"),
+                ("select c.id as one, o.amount as other from customer c, orders o where one = other", "class: none is known for a condition over a name of the select list"),
+                ("select name collate binary from customer", "class: none is known for an expression"),
+                ("select c.id from customer c, orders o where c.id < o.cid", "class: none is known for columns of two tables"),
+                ("select id from (select id from customer) x", "class: none is known for a query in FROM"),
+                ("select c.id from customer c left join city t on t.city = c.city", "class: none is known for LEFT JOIN"),
+                ("select id from customer where city in (select city from city)", "class: none is known for a condition with a subquery")):
+            with self.subTest(sql):
+                self.assertTrue(self.database.explain(sql).hardness.startswith(told), self.database.explain(sql).hardness)
+        self.assertIn("class: first-order", str(self.database.explain("select name from customer")))
 
     def test_explain(self) -> None:
         told = self.database.explain("select name, region from customer c join city t on c.city = t.city, orders where oid = 1")

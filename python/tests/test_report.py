@@ -201,6 +201,22 @@ class Pages(ProgramCase):
         for other in ("Ada", "Bo ", "Dag", "Eli"):
             self.assertNotIn(other, why)
 
+    def test_questions_in_sql(self) -> None:
+        self.file("s.cqa", SCRIPT)
+        self.file("crm.csv", "id,name,city\n1,Ada,Oslo\n2,<b>Bo,\n")
+        self.file("shop.csv", "id,name,city\n1,Ada,Bergen\n")
+        words = ["report", "s.cqa", "--csv", "customer=crm.csv", "--csv", "customer=shop.csv", "--key", "customer=id"]
+        status, out, told = self.command(*words, "--sql", "select name, city from customer where id < 3", "--sql", "select count(*) from customer", "--sql", "select 'x' from customer")
+        self.assertEqual((status, told), (0, ""))
+        read = Reader(out)
+        self.assertEqual(read.open, [])
+        self.assertLessEqual({tag for tag, _ in read.tags}, ALLOWED)
+        for part in ("1 certain, 2 disputed", "<b>Bo", "NULL", "Certain rows: 1", "Disputed rows: 2", "It is no answer where these rows are the right ones of their keys:",
+                     "count: an aggregate or a window function over a table with a key", "1 certain, 0 disputed"):
+            self.assertIn(part, read.text)
+        self.assertEqual(self.command("report", "s.cqa", "--sql", "select 1")[::2], (1, "cqa report: one of --db and --csv is wanted\n"))
+        self.assertEqual(self.command("report", "s.cqa", "--key", "customer=id")[0], 2)
+
 
 if __name__ == "__main__":
     unittest.main()

@@ -16,6 +16,7 @@ import unittest
 import support
 from support import PROGRAM, ProgramCase, lines
 
+from cqa.asking_shell import Asking
 from cqa.session import Session
 from cqa.shell import Shell
 
@@ -53,6 +54,35 @@ class ByLines(ProgramCase):
         status, out, told = self.shell(STAFF + "copy staff from 'x.csv';\nask exists from staff;\ncopy -- here\n staff;\n1,a,2\n\\.\nask exists from staff;\n")
         self.assertEqual((status, lines(out)), (1, ["created staff", "0 rows", "copied 1", "()", "1 rows"]))
         self.assertIn("write `copy staff;`", told)
+
+    def test_sql_over_a_database(self) -> None:
+        self.file("crm.csv", "id,name,city\n1,Ada,Oslo\n2,Bo,Hamar\n")
+        self.file("shop.csv", "id,name,city\n1,Ada,Bergen\n")
+        opened = "\\database --csv customer=crm.csv --csv customer=shop.csv customer=id\n"
+        status, out, told = self.shell(opened + "\\ask select name from customer where city in ('Oslo', 'Bergen');\n"
+                                       "\\ask --disputed --format json select city from customer where id = 1 order by 1\n"
+                                       "\\ask --param 'who=A%' --against Oslo select city from customer where name like :who\n" + STAFF)
+        self.assertEqual((status, told), (0, ""))
+        self.assertEqual(lines(out)[:3], ["\\ask asks customer=crm.csv, customer=shop.csv", "name", "Ada"])
+        self.assertEqual({line for line in lines(out) if line.startswith("{")}, {'{"city": "Oslo"}', '{"city": "Bergen"}'})
+        self.assertEqual(lines(out)[-2:], ['keep customer {"id": 1, "name": "Ada", "city": "Bergen", "source": "shop"}', "created staff"])
+
+    def test_a_password_is_not_shown(self) -> None:
+        asking = Asking()
+        self.file("crm.csv", "id\n1\n")
+        asking.open("--csv t=%s t=id" % self.path("crm.csv"))
+        asking._name = "postgresql://me:a:b@c@host/shop"
+        self.assertEqual(asking.open(""), "\\ask asks postgresql://me@host/shop")
+        asking.close()
+
+    def test_sql_that_is_not_taken(self) -> None:
+        self.file("crm.csv", "id,name\n1,Ada\n")
+        status, out, told = self.shell("\\ask select 1\n\\database nothing.db a=b\n\\database --csv t=crm.csv\n\\database --csv t=crm.csv t=id\n\\ask\n\\ask select max(id) from t\n"
+                                       "\\ask --format xml select 1 from t\n\\ask --csv u=crm.csv --key u=id select 'It''s ' || name from u\n\\ask select name from t\n")
+        self.assertEqual((status, lines(out)), (1, ["\\ask asks t=crm.csv", "'it''s ' || name", "It's Ada", "name", "Ada"]))
+        for line, words in zip(lines(told), ("no database is open: \\database sqlite:shop.db", "nothing.db: no such file", "no key is told", "\\ask wants a query",
+                                             "max: an aggregate", "invalid choice: 'xml'")):
+            self.assertIn(words, line)
 
     def test_load_save_and_describe(self) -> None:
         self.file("a.csv", "id,credit\n1,9.50\n")

@@ -106,7 +106,7 @@ def _rows_text(engine: Engine, plan: Plan, table: Keyed, blocks: Sequence[int]) 
     on.append(engine.is_same_identity("d.cqa_is", engine.identity(["t." + column.quoted for column in used], used)))
     columns = ", ".join("t." + column.quoted for column in table.relation.columns)
     return "SELECT d.cqa_b, d.cqa_r, %s FROM cqa_d%d d JOIN %s t ON %s WHERE d.cqa_b IN (%s)" % (
-        columns, number, table.relation.name, " AND ".join(on), ", ".join(map(str, blocks)))
+        columns, number, plan.rows_of(table), " AND ".join(on), ", ".join(map(str, blocks)))
 
 
 class ByTables(Evaluation):
@@ -137,9 +137,10 @@ class ByTables(Evaluation):
         rows = 0
         for table in plan.watched:
             touched = sum(met[join.name] for join in plan.joins for leaf in join.leaves if leaf.table is table)
-            is_touched = touched * self.engine.few <= self.engine.size(table.relation)
+            kept = plan.kept.get(table.relation.name)
+            is_touched = touched <= kept.rows if kept is not None else touched * self.engine.few <= self.engine.size(table.relation)
             repeated, *others = plan.conflict_steps(table, is_touched).items()
-            with self.engine.find_by_index(not is_touched):
+            with self.engine.find_by_index(not is_touched and kept is None):
                 self._make(dict([repeated]))
             rows += self._make(dict(others))
         self._has_lists = rows > 0 and self._make(plan.list_steps()) > 0
@@ -189,6 +190,7 @@ class ByStatement(Evaluation):
             steps.update(plan.conflict_steps(table, True))
         if plan.width:
             steps.update(plan.list_steps())
+        steps.update(plan.clean_step())  # MariaDB takes no WITH within a step
         return {name: (step.columns, step.select) for name, step in steps.items()}
 
     def sure(self) -> Iterator[Row]:
@@ -197,7 +199,7 @@ class ByStatement(Evaluation):
         ids, null = 3 * plan.width, self.engine.null_number
         names = ", ".join(["cqa_m", *plan.columns, *[null] * ids])
         text = with_steps(self._steps, self.engine.materialized)
-        text += "SELECT 1, %s FROM (%s) x" % (names, plan.sure(plan.width > 0))
+        text += "SELECT 1, %s FROM (%s) x" % (names, plan.sure(plan.width > 0, is_clean_made=True))
         if plan.width:
             text += " UNION ALL SELECT 2, %s FROM cqa_n" % ", ".join(["cqa_n", *plan.columns, *["cqa_%s%d" % (kind, at) for at in range(plan.width) for kind in "brz"]])
         nulls = plan.nulls()
@@ -222,7 +224,7 @@ class ByStatement(Evaluation):
                 yield candidate
 
     def _over_conflicts(self, select: str) -> Iterator[Row]:
-        steps = {name: step for name, step in self._steps.items() if name[:5] not in ("cqa_l", "cqa_n")}
+        steps = {name: step for name, step in self._steps.items() if name[:5] not in ("cqa_l", "cqa_n", "cqa_c")}
         return self.engine.rows(with_steps(steps, self.engine.materialized) + select, self.arguments)
 
 

@@ -4,6 +4,7 @@ from __future__ import annotations
 
 import importlib
 import importlib.util
+import select
 import sqlite3
 from typing import Any
 
@@ -22,7 +23,7 @@ def connected(where: Any) -> Engine:
         return SQLite(where, False)
     driver = type(where).__module__.split(".")[0]
     if driver == "sqlalchemy":
-        return connected(_of_sqlalchemy(where))
+        return _of_sqlalchemy(where)
     if driver in ("psycopg2", "psycopg"):
         return Postgres(where, False)
     if driver in ("pymysql", "MySQLdb"):
@@ -31,12 +32,15 @@ def connected(where: Any) -> Engine:
                        "wanted" % (driver, type(where).__name__))
 
 
-def _of_sqlalchemy(where: Any) -> Any:
-    """The connection of a driver below an engine or a connection of SQLAlchemy."""
-    held = where.raw_connection() if hasattr(where, "raw_connection") else getattr(where, "connection", None)
+def _of_sqlalchemy(where: Any) -> Engine:
+    """Over an engine or a connection of SQLAlchemy. A connection that an engine lends is held till the end, so that no other gets it."""
+    is_lent = hasattr(where, "raw_connection")
+    held = where.raw_connection() if is_lent else getattr(where, "connection", None)
     for name in ("driver_connection", "dbapi_connection", "connection"):
         if getattr(held, name, None) is not None:
-            return getattr(held, name)
+            found = connected(getattr(held, name))
+            found.lent = held if is_lent else None
+            return found
     raise QueryRefused("%s of SQLAlchemy is no engine and no connection" % type(where).__name__)
 
 
@@ -56,5 +60,26 @@ def _opened(where: str) -> Engine:
 def heed_interrupts() -> None:
     """Makes Ctrl-C end a statement that runs, for this whole process, where a driver would wait for its end."""
     if importlib.util.find_spec("psycopg2") is not None:
-        extras = importlib.import_module("psycopg2.extras")
-        importlib.import_module("psycopg2.extensions").set_wait_callback(extras.wait_select)
+        importlib.import_module("psycopg2.extensions").set_wait_callback(_wait)
+
+
+def _wait(connection: Any) -> None:
+    """Waits for what psycopg2 runs. Ctrl-C cancels it, and is raised when that is done."""
+    extensions = importlib.import_module("psycopg2.extensions")
+    is_interrupted = False
+    while True:
+        try:
+            state = connection.poll()
+            if state == extensions.POLL_OK:
+                break
+            number = connection.fileno()
+            select.select([number] if state == extensions.POLL_READ else [], [number] if state == extensions.POLL_WRITE else [], [], 1.0)
+        except KeyboardInterrupt:
+            is_interrupted = True
+            connection.cancel()
+        except extensions.QueryCanceledError:
+            if is_interrupted:
+                raise KeyboardInterrupt from None
+            raise
+    if is_interrupted:
+        raise KeyboardInterrupt

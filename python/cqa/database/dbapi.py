@@ -32,6 +32,8 @@ class DbApi(Engine):
             yield
         except self.error as fault:
             raise DatabaseFault("%s: %s" % (self.name, self.said(fault))) from fault
+        except (ValueError, OverflowError) as fault:  # of a driver that makes a value of Python, as a date before the year 1
+            raise DatabaseFault("%s: a value that Python can't hold: %s: write cast(.. as text) around it" % (self.name, self.said(fault))) from fault
 
     def said(self, fault: BaseException) -> str:
         """What a fault says, in a line."""
@@ -84,9 +86,13 @@ class DbApi(Engine):
                 self.execute(cursor, self.description_text(sql), arguments)
             return [Column(column[0], self.quoted(column[0]), str(column[1])) for column in cursor.description]
         except self.error as fault:
-            raise QueryRefused(self.said(fault)) from None
+            raise (QueryRefused if self.is_of_text(fault) else DatabaseFault)(self.said(fault)) from None
         finally:
             cursor.close()
+
+    def is_of_text(self, fault: BaseException) -> bool:
+        """Whether a fault lies in the text, and not in how the database is."""
+        return True
 
     def begin_question(self, tokens: Sequence[Any]) -> None:
         self._known_columns.clear()

@@ -22,6 +22,7 @@ class Engine(ABC):
     where no column has it. using_converts: whether USING may change the type of its column. checks_types: whether
     the columns of the parts of a union have to be known. reads_capitals: whether names of tables that differ in capitals may be two. few: repeated keys are
     looked for among those that the joins met, where these are at most one in so many of a table's rows. most_elements: of one FROM.
+    is_untyped: whether a text beside a number stays one.
     """
 
     name: str
@@ -38,7 +39,10 @@ class Engine(ABC):
     reads_capitals = False
     few = 10
     most_elements = 64
+    is_untyped = False
     _has_tables = False
+    #: What lends the connection, and takes it back at the end by its `close`.
+    lent: Any = None
 
     # The catalogue. It is looked at anew for each question.
 
@@ -114,6 +118,15 @@ class Engine(ABC):
     @abstractmethod
     def can_make_tables(self) -> bool:
         """Whether temporary tables can be made in the transaction: it is our own, and they are gone with it."""
+
+    def keeping_fault(self, relation: Relation) -> Optional[str]:
+        """Why rows of a table can't be kept as they are in a temporary table, if they can't."""
+        return None
+
+    def writes(self, relation: Relation) -> object:
+        """What is another where rows of a table were written meanwhile in this transaction through this connection, other than by us. It is
+        asked only where tables can be made."""
+        return None
 
     def has_one_state(self) -> bool:
         """Whether several statements of the transaction see one state of the database."""

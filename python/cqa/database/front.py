@@ -18,6 +18,8 @@ from ..rows import csv_line
 from .answering import ByStatement, ByTables, Candidate, Evaluation, Kept
 from .connecting import connected
 from .engine import Engine, Row, named
+from .hardness import hardness
+from .keeping import Prepared, check_unwritten, prepared
 from .keys import Keys, keyed_tables, named_relation, read_keys
 from .plan import Plan
 from .query import Branch, Column, Keyed
@@ -41,13 +43,15 @@ class Explained:
 
     certain_tables: the tables that it reads and that have no key, taken as they are. used: for each table with a key its columns that the
     question uses. conflicts: for each of these tables the keys in conflict that were met; none is looked for where the used columns are
-    the key. statements: the SQL that is sent.
+    the key. statements: the SQL that is sent. hardness: a line with the class of a conjunctive query without self-joins and its attacks, or
+    why none is known.
     """
 
     certain_tables: Tuple[str, ...]
     used: Dict[str, Tuple[str, ...]]
     conflicts: Dict[str, int]
     statements: Tuple[str, ...]
+    hardness: str
 
     def __str__(self) -> str:
         lines = ["taken as certain: %s" % (", ".join(self.certain_tables) or "nothing")]
@@ -55,7 +59,7 @@ class Explained:
             count = self.conflicts.get(table)
             lines.append("%s: uses %s; %s" % (table, ", ".join(columns), "its key alone, so no conflict matters" if count is None else
                                               "%d key%s in conflict" % (count, "" if count == 1 else "s")))
-        return "\n".join([*lines, *self.statements])
+        return "\n".join([*lines, self.hardness, *self.statements])
 
 
 class Answers:
@@ -136,7 +140,8 @@ def _plain(value: Any) -> Any:
 class _Question:
     """A question, read against the catalogue as it is."""
 
-    def __init__(self, engine: Engine, keys: Keys, sql: str, arguments: Mapping[str, Any], null_key: str, is_strict: bool) -> None:
+    def __init__(self, engine: Engine, keys: Keys, sql: str, arguments: Mapping[str, Any], null_key: str, is_strict: bool,
+                 kept: Mapping[str, Prepared]) -> None:
         tokens = scanned(sql, engine.lexicon)
         for token in tokens:
             if token.kind == "parameter" and token.text[1:] not in arguments:
@@ -155,8 +160,9 @@ class _Question:
             raise QueryRefused("no key is told of %s" % ", ".join(self.certain_tables))
         if not self.columns or any(len(branch.items) != len(self.columns) for branch in self.branches):
             raise QueryRefused("%d columns, and a part with another number" % len(self.columns))
-        self.plan = Plan(engine, self.branches, reader.names.used, len(self.columns), null_key)
+        self.plan = Plan(engine, self.branches, reader.names.used, len(self.columns), null_key, kept)
         self.tables: List[Keyed] = self.plan.tables
+        check_unwritten(engine, self.tables, kept)
         for step in self.plan.join_steps().values():
             self._check(engine, named(step.columns, step.select, "cqa_w"))
 
@@ -194,6 +200,7 @@ class Database:
         self.timeout = timeout
         self._program = program
         self._tables = tables
+        self._kept: Dict[str, Prepared] = {}
         self._engine: Engine = connected(where)
         try:
             self._keys: Keys = read_keys(keys) if isinstance(keys, str) else dict(keys)
@@ -204,9 +211,17 @@ class Database:
             self._engine.close()
             raise
 
+    @property
+    def is_untyped(self) -> bool:
+        """Whether the database takes a text for a text even beside numbers, so that a parameter that is a number has to be one."""
+        return self._engine.is_untyped
+
     def close(self) -> None:
         """Closes the connection, where it isn't one that was handed in."""
         self._engine.close()
+        if self._engine.lent is not None:
+            self._engine.lent.close()
+            self._engine.lent = None
 
     def __enter__(self) -> "Database":
         return self
@@ -268,13 +283,27 @@ class Database:
                 pass
             counts = evaluation.counts()
             used = {table.label: tuple(column.name for column in question.plan.used[table.relation.name]) for table in question.tables}
-            return Explained(tuple(question.certain_tables), used, counts, tuple(evaluation.statements))
+            return Explained(tuple(question.certain_tables), used, counts, tuple(evaluation.statements), hardness(question.branches, self._program))
 
     @contextmanager
-    def snapshot(self) -> Iterator["Database"]:
-        """Within it, all questions see one state of the database."""
-        with self._engine.transaction(self.timeout):
-            yield self
+    def snapshot(self, prepare: Sequence[str] = ()) -> Iterator["Database"]:
+        """Within it, all questions see one state of the database. prepare: tables with keys whose rows in conflict are looked for at once,
+        and kept in temporary tables till its end, so that each question over them is quicker. These tables mustn't be written within it
+        through a connection that was handed in: a question is refused then.
+
+        Raises QueryRefused where no temporary tables can be made, or where a table to prepare has no key.
+        """
+        engine, before = self._engine, self._kept
+        with engine.transaction(self.timeout), ExitStack() as stack:
+            if prepare:
+                engine.begin_question([])
+                if not self._tables or not engine.can_make_tables():
+                    raise QueryRefused("prepare: no temporary tables can be made here: ask without it")
+                self._kept = stack.enter_context(prepared(engine, keyed_tables(engine, self._keys), prepare, before))
+            try:
+                yield self
+            finally:
+                self._kept = before
 
     # How they are answered.
 
@@ -312,7 +341,7 @@ class Database:
         engine = self._engine
         with engine.transaction(self.timeout):
             try:
-                question = _Question(engine, self._keys, sql, params, self.null_key, self.strict_keys)
+                question = _Question(engine, self._keys, sql, params, self.null_key, self.strict_keys, self._kept)
                 with engine.room_for_tables(self._tables) as has_room:
                     evaluation: Evaluation = (ByTables if has_room else ByStatement)(engine, question.plan, question.arguments)
                     yield question, evaluation

@@ -27,7 +27,7 @@ def keyed_tables(engine: Engine, keys: Keys) -> Dict[str, Keyed]:
         key = []
         for text in [columns] if isinstance(columns, str) else columns:
             name = _name(engine, text)
-            column = relation.column(name[0].value)
+            column = relation.column(name[0].value) or relation.column(text)
             if len(name) != 1 or column is None:
                 raise QueryRefused("key of %s: no column %s; it has %s" % (table, text, ", ".join(one.name for one in relation.columns)))
             fault = engine.key_fault(column)

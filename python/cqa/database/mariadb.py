@@ -10,7 +10,7 @@ from urllib.parse import unquote, urlsplit
 
 from ..errors import DatabaseFault, QueryRefused
 from .dbapi import DbApi
-from .engine import Row, named
+from .engine import Row
 from .query import Branch, Column, Relation
 from .tokens import Lexicon, Token, folded
 
@@ -47,8 +47,6 @@ class MariaDB(DbApi):
     def __init__(self, connection: Any, is_own: bool) -> None:
         super().__init__(connection, is_own)
         self._timeout: Optional[float] = None
-        self._can_make = False
-        self._made: List[str] = []
         self._sorted = 0
 
     @classmethod
@@ -187,7 +185,7 @@ class MariaDB(DbApi):
             try:
                 yield
             finally:
-                self._depth -= 1
+                self._depth = max(0, self._depth - 1)  # the outer one may have ended
             return
         isolation, is_within = self.all("SELECT @@tx_isolation, @@in_transaction")[0]
         if is_within and isolation not in ("REPEATABLE-READ", "SERIALIZABLE"):
@@ -203,13 +201,12 @@ class MariaDB(DbApi):
             self._depth = 0
             self._timeout = None
             with suppress(Exception):  # a connection that is lost has no transaction
-                for name in list(self._made):
-                    self.drop_table(name)
                 if not is_within:
                     self.connection.rollback()
 
     def can_make_tables(self) -> bool:
-        return True
+        # CREATE TABLE .. SELECT locks rows, and reads those committed last in place of the snapshot's
+        return False
 
     def execute(self, cursor: Any, sql: str, arguments: Mapping[str, Any]) -> None:
         if self._timeout is not None:
@@ -226,16 +223,6 @@ class MariaDB(DbApi):
                 yield tuple(row)
         finally:
             cursor.close()
-
-    def make_table(self, name: str, columns: Sequence[str], select: str, key: Sequence[str], arguments: Mapping[str, Any]) -> int:
-        self.run("CREATE TEMPORARY TABLE %s AS %s" % (name, named(columns, select, name)), arguments)
-        self._made.append(name)
-        return self.number("SELECT count(*) FROM %s" % name)
-
-    def drop_table(self, name: str) -> None:
-        self.run("DROP TEMPORARY TABLE IF EXISTS %s" % name, {})
-        if name in self._made:
-            self._made.remove(name)
 
     def size(self, relation: Relation) -> int:
         return self.number("SELECT count(*) FROM %s" % relation.name)

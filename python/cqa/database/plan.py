@@ -12,6 +12,7 @@ from typing import Dict, Iterator, List, Mapping, NamedTuple, Sequence, Set, Tup
 
 from ..errors import QueryRefused
 from .engine import Engine
+from .keeping import Prepared
 from .query import Branch, Column, Keyed, Leaf
 from .rendering import rendered
 
@@ -41,10 +42,13 @@ class _Joined(NamedTuple):
 class Plan:
     """The steps of a question. watched: the tables whose conflicts are looked for. width: the longest list."""
 
-    def __init__(self, engine: Engine, branches: Sequence[Branch], used: Mapping[str, Set[str]], count: int, null_key: str) -> None:
-        """used: the used columns of each table. count: how many columns answers have. null_key: "refuse", "own" or "drop"."""
+    def __init__(self, engine: Engine, branches: Sequence[Branch], used: Mapping[str, Set[str]], count: int, null_key: str,
+                 kept: Mapping[str, Prepared]) -> None:
+        """used: the used columns of each table. count: how many columns answers have. null_key: "refuse", "own" or "drop". kept: rows
+        in conflict that are kept, by the whole names of their tables."""
         self.engine = engine
         self.null_key = null_key
+        self.kept = kept
         self.columns = ["cqa_c%d" % at for at in range(count)]
         self.tables: List[Keyed] = list(dict.fromkeys(leaf.table for branch in branches for leaf in branch.leaves()))
         self.used = {table.relation.name: [column for column in table.relation.columns if column.name in used[table.relation.name]]
@@ -93,8 +97,8 @@ class Plan:
         if is_touched:
             conditions.append("(%s) IN (%s)" % (own, " UNION ALL ".join(self._touched(table))))
         where = " WHERE " + " AND ".join(conditions) if conditions else ""
-        name = table.relation.name
-        used = self.used[name]
+        used = self.used[table.relation.name]
+        name = self.rows_of(table)
         on = " AND ".join("k.%s = t.%s" % pair for pair in zip(keys, quoted))
         identity = self.engine.identity(["t." + column.quoted for column in used], used)
         of = "cqa_k%d" % number
@@ -107,6 +111,11 @@ class Plan:
             "cqa_d%d" % number: Step([*keys, "cqa_is", "cqa_b", "cqa_r", "cqa_z"], "SELECT %s, cqa_is, %d + %d * b, r, z FROM (%s) x WHERE z > 1"
                                      % (kept, number, len(self.watched), numbered), keys),
         }
+
+    def rows_of(self, table: Keyed) -> str:
+        """Where the rows of keys in conflict of a table are: the table, or what is kept of it."""
+        known = self.kept.get(table.relation.name)
+        return table.relation.name if known is None else known.name
 
     def _touched(self, table: Keyed) -> Iterator[str]:
         for join in self.joins:
@@ -164,10 +173,15 @@ class Plan:
             texts.append("SELECT %s FROM %s w%s" % (", ".join(self._values("w")), join.name, " WHERE " + " AND ".join(conditions) if conditions else ""))
         return " UNION ALL ".join(texts)
 
-    def sure(self, has_lists: bool) -> str:
-        """The candidates with a witness that no conflict touches, each once, with their number among those that have lists too, or 0."""
+    def clean_step(self) -> Dict[str, Step]:
+        """`clean` as a step."""
+        return {"cqa_c": Step(self.columns, self.clean())}
+
+    def sure(self, has_lists: bool, is_clean_made: bool = False) -> str:
+        """The candidates with a witness that no conflict touches, each once, with their number among those that have lists too, or 0.
+        is_clean_made: whether `cqa_c` is a step before."""
         names = ", ".join(self.columns)
-        clean = "WITH cqa_c(%s) AS (%s) " % (names, self.clean())
+        clean = "" if is_clean_made else "WITH cqa_c(%s) AS (%s) " % (names, self.clean())
         if not has_lists:
             return "%sSELECT DISTINCT 0 AS cqa_m, %s FROM cqa_c" % (clean, names)
         both = "SELECT 0 AS cqa_m, %s FROM cqa_c UNION ALL SELECT cqa_n, %s FROM cqa_n" % (names, names)

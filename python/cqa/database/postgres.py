@@ -38,6 +38,10 @@ reading(oid, is_hidden) AS (
   WHERE d.classid = 'pg_rewrite'::regclass AND d.refclassid = 'pg_proc'::regclass AND p.provolatile <> 'i' AND p.pronamespace <> 'pg_catalog'::regnamespace
   UNION SELECT e.reader, e.is_hidden OR r.is_hidden FROM reading r JOIN edges e ON e.read = r.oid)
 SELECT c.relname, r.is_hidden FROM reading r JOIN pg_class c ON c.oid = r.oid"""
+#: The locks on a table and what is below it by which this transaction wrote, or changed the table.
+_WRITES = """WITH RECURSIVE parts(oid) AS (SELECT %s::oid UNION SELECT inhrelid FROM pg_inherits JOIN parts ON inhparent = parts.oid)
+SELECT relation::bigint, mode FROM pg_locks WHERE pid = pg_backend_pid() AND locktype = 'relation' AND relation IN (SELECT oid FROM parts)
+AND database = (SELECT oid FROM pg_database WHERE datname = current_database()) AND mode NOT IN ('AccessShareLock', 'RowShareLock')"""
 _FAULTY_OPERATORS = """SELECT DISTINCT oprname FROM pg_operator o JOIN pg_proc p ON p.oid = o.oprcode
 WHERE p.provolatile = 'v' OR p.provolatile = 's' AND p.pronamespace <> 'pg_catalog'::regnamespace"""
 
@@ -56,6 +60,7 @@ class Postgres(DbApi):
         self._oids: Dict[str, int] = {}
         self._faulty_operators: Optional[Set[str]] = None
         self._cursors = 0
+        self._transactions = 0
         self._can_make = False
         self._has_one_state = False
 
@@ -76,6 +81,9 @@ class Postgres(DbApi):
     def said(self, fault: BaseException) -> str:
         text = super().said(fault)
         return re.sub(r"^ERROR:\s*", "", text)
+
+    def is_of_text(self, fault: BaseException) -> bool:
+        return not isinstance(fault, self.module.OperationalError)  # as a deadlock, or a timeout
 
     def cursor(self) -> Any:
         return self.module.ClientCursor(self.connection) if hasattr(self.module, "ClientCursor") else self.connection.cursor()
@@ -174,15 +182,17 @@ class Postgres(DbApi):
             try:
                 yield
             finally:
-                self._depth -= 1
+                self._depth = max(0, self._depth - 1)  # the outer one may have ended
             return
         begins = self._status() == _IDLE
         self._begin(begins, timeout)
         self._depth = 1
+        self._transactions += 1
         try:
             yield
         finally:
             self._depth = 0
+            self._transactions += 1
             self._can_make = False
             with suppress(Exception):  # a connection that is lost has no transaction
                 self._end(begins)
@@ -226,6 +236,12 @@ class Postgres(DbApi):
     def can_make_tables(self) -> bool:
         return self._can_make
 
+    def keeping_fault(self, relation: Relation) -> Optional[str]:
+        return "it was written in this transaction: commit that, or leave it out" if self.writes(relation) else None
+
+    def writes(self, relation: Relation) -> object:
+        return sorted(self.all(_WRITES, self._oids[relation.name]))
+
     def has_one_state(self) -> bool:
         return self._has_one_state
 
@@ -241,11 +257,13 @@ class Postgres(DbApi):
 
     def rows(self, sql: str, arguments: Mapping[str, Any]) -> Iterator[Row]:
         self._cursors += 1
-        name = "cqa_f%d" % self._cursors
+        name, within = "cqa_f%d" % self._cursors, self._transactions
         self.run("DECLARE %s NO SCROLL CURSOR FOR %s" % (name, sql), arguments)
         cursor = self.cursor()
         try:
             while True:
+                if self._transactions != within:
+                    raise DatabaseFault("PostgreSQL: the snapshot ended before its answers had come")
                 with self.told():
                     cursor.execute("FETCH %d FROM %s" % (_PIECE, name))
                     rows = cursor.fetchall()
@@ -253,8 +271,9 @@ class Postgres(DbApi):
                 if len(rows) < _PIECE:
                     return
         finally:
-            with suppress(self.error):  # where a statement failed, it is closed already
-                cursor.execute("CLOSE %s" % name)
+            if self._transactions == within:
+                with suppress(self.error):  # where a statement failed, it is closed already
+                    cursor.execute("CLOSE %s" % name)
             cursor.close()
 
     def make_table(self, name: str, columns: Sequence[str], select: str, key: Sequence[str], arguments: Mapping[str, Any]) -> int:

@@ -2,11 +2,13 @@
 
 from __future__ import annotations
 
+import math
 import os
 import re
 import sqlite3
 import time
 from contextlib import contextmanager, suppress
+from functools import partial
 from typing import Any, Dict, Iterator, List, Mapping, Optional, Sequence, Set, Tuple
 from urllib.parse import quote
 
@@ -34,6 +36,7 @@ class SQLite(Engine):
     has_quoted_texts = True
     using_converts = False
     checks_types = False
+    is_untyped = True
     few = 3
 
     def __init__(self, connection: sqlite3.Connection, is_own: bool) -> None:
@@ -43,6 +46,9 @@ class SQLite(Engine):
         self.is_own = is_own
         self._depth = 0
         self._is_own_transaction = False
+        self._own_changes = 0
+        self._is_late = False
+        self._is_interrupted = False
         self._relations: Dict[Tuple[str, str], List[Tuple[str, str, str, str]]] = {}
         self._columns: Dict[str, Set[str]] = {}
         self._functions: Dict[str, List[Tuple[str, int, bool]]] = {}
@@ -194,12 +200,14 @@ class SQLite(Engine):
 
     @contextmanager
     def transaction(self, timeout: Optional[float]) -> Iterator[None]:
-        begins = self._depth == 0 and not self.connection.in_transaction
+        with self._told():  # the connection may be closed
+            begins = self._depth == 0 and not self.connection.in_transaction
+            heeds = timeout is not None or self.is_own and begins
+            if heeds:
+                end = time.monotonic() + (math.inf if timeout is None else timeout)
+                self.connection.set_progress_handler(partial(self._goes_on, end), 10_000)
         self._depth += 1
         self._is_own_transaction = self._is_own_transaction or begins
-        if timeout is not None:
-            end = time.monotonic() + timeout
-            self.connection.set_progress_handler(lambda: int(time.monotonic() > end), 10_000)
         try:
             if begins:
                 self.run("BEGIN", {})
@@ -208,24 +216,54 @@ class SQLite(Engine):
             self._depth -= 1
             self._is_own_transaction = self._is_own_transaction and not begins
             with suppress(sqlite3.ProgrammingError):  # a connection that is closed has no transaction
-                if timeout is not None:
+                if heeds:
                     self.connection.set_progress_handler(None, 0)
                 if begins and self.connection.in_transaction:
                     self.connection.execute("ROLLBACK")
+
+    def _goes_on(self, end: float) -> int:
+        """What SQLite asks now and then: 0 where the statement goes on. It is ended by the timeout, and by Ctrl-C."""
+        try:
+            self._is_late = time.monotonic() > end
+        except KeyboardInterrupt:  # which comes where Python runs, so here
+            self._is_interrupted = True
+        return int(self._is_late or self._is_interrupted)
+
+    @contextmanager
+    def _told(self) -> Iterator[None]:
+        """Tells a fault of the database as one of ours. Raises KeyboardInterrupt where Ctrl-C ended a statement."""
+        try:
+            yield
+        except sqlite3.Error as fault:
+            if self._is_interrupted:
+                self._is_interrupted = False
+                raise KeyboardInterrupt from None
+            text = "it took longer than the timeout" if str(fault) == "interrupted" and self._is_late else str(fault)
+            raise DatabaseFault("SQLite: %s" % text) from fault
 
     def can_make_tables(self) -> bool:
         # a temporary table would lose the collations of its columns
         return self._is_own_transaction and not self.saw_collation and not self.number("PRAGMA query_only")
 
+    def keeping_fault(self, relation: Relation) -> Optional[str]:
+        is_collated = any(column.is_collated for column in relation.columns)
+        return "SQLite would lose the collations of its columns: leave it out" if is_collated else None
+
+    def writes(self, relation: Relation) -> object:
+        schema = relation.name.split('"."')[0].strip('"')
+        return self.connection.total_changes - self._own_changes, self.number("PRAGMA %s.schema_version" % self.quoted(schema))
+
     def run(self, sql: str, arguments: Mapping[str, Any]) -> None:
-        with _told():
+        before = self.connection.total_changes
+        with self._told():
             self.connection.execute(sql, dict(arguments)).close()
+        self._own_changes += self.connection.total_changes - before
 
     def rows(self, sql: str, arguments: Mapping[str, Any]) -> Iterator[Row]:
         cursor = self.connection.cursor()
         cursor.row_factory = None
         try:
-            with _told():
+            with self._told():
                 cursor.execute(sql, dict(arguments))
                 yield from cursor
         finally:
@@ -237,18 +275,6 @@ class SQLite(Engine):
     def close(self) -> None:
         if self.is_own:
             self.connection.close()
-
-
-@contextmanager
-def _told() -> Iterator[None]:
-    """Tells a fault of the database as one of ours."""
-    try:
-        yield
-    except sqlite3.OperationalError as fault:
-        text = "it took longer than the timeout" if str(fault) == "interrupted" else str(fault)
-        raise DatabaseFault("SQLite: %s" % text) from fault
-    except sqlite3.Error as fault:
-        raise DatabaseFault("SQLite: %s" % fault) from fault
 
 
 _COLLATE = re.compile(r"\bcollate\b(?!\s+[\"'`\[]?binary\b)", re.I)
