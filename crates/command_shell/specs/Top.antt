@@ -14,8 +14,7 @@ use Rattle.case_maker.specs.Scripts.{script_bytes}
 use Rattle.command_shell.specs.Runs.{Answers, CutShort}
 use Rattle.command_shell.specs.GoingOn.{BeginsRun}
 use Rattle.group_stream.specs.declared.ending.TheConstants.{MOST_JUDGED}
-use Rattle.group_stream.specs.Judges.{Judges}
-use Rattle.group_stream.specs.Judges.{CutShort as BeginsJudged}
+use Rattle.group_stream.specs.Judges.{BeginsReplies, Judges}
 use Rattle.command_shell.specs.Judging.{HaveBudget, judge_words}
 use Rattle.command_shell.specs.Demo.{IsSize, IsDemo, BeginsDemo, BreaksOffIn}
 
@@ -129,14 +128,22 @@ DemoRow size WriteFault call = IsUnread call × CountsWriteFault call × BeginsD
 DemoRow size OutOfMemory call = IsUnread call × (call.written ≡ []) × BreaksOffIn call.old (script_bytes size) call.new
 DemoRow size TooLong call = ⊥
 
+-- The replies to the bytes within the limit were cut short, and what was written begins the replies to all of these bytes: to them as they were taken,
+-- which is for an input that has ended only where they are one, and to them as an input that has ended.
+pub record JudgingBreaksOff (reasons : Bool) (budget : ℕ) (call : Call) : Type 0 where
+  pub taken : Bool
+  pub is_end : taken ≡ true → IsReadToEnd call × (length call.came ≤ MOST_JUDGED)
+  pub whole : BeginsReplies reasons budget (take MOST_JUDGED call.came) taken call.written
+  pub ended : BeginsReplies reasons budget (take MOST_JUDGED call.came) true call.written
+
 -- The row of each ending of `judge`, with reasons or without, by searches of at most so many conflicts.
 abbrev pub JudgeRow : Bool → ℕ → Ending → Call → Type 0
 JudgeRow reasons budget Answered call = IsReadToEnd call × (length call.came ≤ MOST_JUDGED) × Judges reasons budget call.came true call.written false
 JudgeRow reasons budget WithRefusal call = IsReadToEnd call × (length call.came ≤ MOST_JUDGED) × Judges reasons budget call.came true call.written true
 JudgeRow reasons budget BadWords call = ⊥
 JudgeRow reasons budget ReadFault call = CountsReadFault call × (length call.came ≤ MOST_JUDGED) × ((refused : Bool) × Judges reasons budget call.came false call.written refused)
-JudgeRow reasons budget WriteFault call = CountsWriteFault call × BeginsJudged reasons budget call.came call.written
-JudgeRow reasons budget OutOfMemory call = BeginsJudged reasons budget call.came call.written
+JudgeRow reasons budget WriteFault call = CountsWriteFault call × (length call.came ≤ MOST_JUDGED + 1) × JudgingBreaksOff reasons budget call
+JudgeRow reasons budget OutOfMemory call = (length call.came ≤ MOST_JUDGED + 1) × JudgingBreaksOff reasons budget call
 JudgeRow reasons budget TooLong call = (length call.came ≡ MOST_JUDGED + 1) × ((refused : Bool) × Judges reasons budget (take MOST_JUDGED call.came) false call.written refused)
 
 -- Words that aren't accepted: nothing is read or written, and no fault is counted.

@@ -26,10 +26,10 @@ dec_var held v = dec_some (λ (l : Lit). l.var ≡ v) (λ (l : Lit). ℕ_discret
 pub has_var : (held : List Lit) (l : Lit) → Contains held l → HasVar held l.var
 has_var held l m = (l, m, refl)
 
-dec_all_denied : (held c : List Lit) → Dec (AllDenied held c)
+pub dec_all_denied : (held c : List Lit) → Dec (AllDenied held c)
 dec_all_denied held c = dec_each (Denied held) (λ m. dec_has held (opposite m)) c
 
-dec_others : (held c : List Lit) (l : Lit) → Dec (OthersDenied held c l)
+pub dec_others : (held c : List Lit) (l : Lit) → Dec (OthersDenied held c l)
 dec_others held c l = dec_by (λ h m k n. h m k n) (λ h m k n. h m k n) (dec_each (λ m. m ≢ l → Denied held m) (λ m. dec_if (dec_not (dec_lit m l)) (dec_has held (opposite m))) c)
 
 -- more literals deny more

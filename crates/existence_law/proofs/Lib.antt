@@ -24,3 +24,8 @@ pub mod Ranging
 pub mod Grouping
 pub mod Joining
 pub mod JoinGrouping
+pub mod Verifying
+pub mod GroupNumbers
+pub mod Drafts
+pub mod Replying
+pub mod Continuing

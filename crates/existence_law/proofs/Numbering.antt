@@ -28,7 +28,7 @@ dec_of_block : (db : List Table) (m n : RowId) → Dec (IsOfBlock db m n)
 dec_of_block db m n = dec_both (ℕ_discrete m.table n.table) (dec_shares (key_at db m.table) (named db m) (named db n))
 
 -- the numbers from 1 on, up to a number, that have what is decided
-numbers_with : (P : ℕ → Type 0) → ((n : ℕ) → Dec (P n)) → (most : ℕ) → ((n : ℕ) → P n → (1 ≤ n) × (n < 1 + most)) → (numbers : List ℕ) × (IsStrictlySortedBy nat_cmp numbers × ((n : ℕ) → Contains numbers n ↔ P n))
+pub numbers_with : (P : ℕ → Type 0) → ((n : ℕ) → Dec (P n)) → (most : ℕ) → ((n : ℕ) → P n → (1 ≤ n) × (n < 1 + most)) → (numbers : List ℕ) × (IsStrictlySortedBy nat_cmp numbers × ((n : ℕ) → Contains numbers n ↔ P n))
 numbers_with P d most within = (
   passing d 1 most,
   (

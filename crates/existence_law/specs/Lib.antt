@@ -14,3 +14,4 @@ pub mod Against
 pub mod Ranges
 pub mod RangeGroups
 pub mod JoinRanges
+pub mod GroupReplies

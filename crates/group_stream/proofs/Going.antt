@@ -1,6 +1,6 @@
 -- What is gathered, handed on or broken off, step by step.
 use Rattle.std.proofs.Common.{◌≡◌, ℕ, ◌≤◌, ◌+◌, Bool, true, false, List, [], ◌∷◌, ◌++◌, Option, take, drop, length, refl, sym, ◌∙◌, ap, subst, arith, append_assoc, append-nil, take-append-drop, length-append}
-use Rattle.std.specs.Prelude.{IsErrAnd, Result, Ok, Err}
+use Rattle.std.specs.Prelude.{⊤, IsErrAnd, Result, Ok, Err}
 use Rattle.std.specs.Io.KnownBytes.{Appends}
 use Rattle.cqa_io.specs.Causes.{Rose}
 use Rattle.group_stream.specs.declared.ending.Stop.{Stop}
@@ -18,27 +18,40 @@ pub judged_so_far : (reasons : Bool) (budget : ℕ) (came written : List ℕ) (g
 judged_so_far reasons budget came written g s = record { done = s.done; rest = s.rest; cut = s.cut; replied = s.replied }
 
 -- what was written begins it, whatever bytes come later
-cut_here : (reasons : Bool) (budget : ℕ) (came later written : List ℕ) (g : Gathered) (more left : List ℕ) → Stands reasons budget came written g → g.out ≡ more ++ left → CutShort reasons budget (came ++ later) (written ++ more)
-cut_here reasons budget came later written g more left s e = record {
+pub cut_here : (reasons : Bool) (budget : ℕ) (came later : List ℕ) (at_end : Type 0) (written : List ℕ) (g : Gathered) (more left : List ℕ) → Stands reasons budget came written g → g.out ≡ more ++ left → CutShort reasons budget (came ++ later) at_end (written ++ more)
+cut_here reasons budget came later at_end written g more left s e = record {
   first = came;
   later = later;
-  came_is = refl;
+  bytes_are = refl;
   ended = false;
   whole = λ i. cc;
-  all = written ++ g.out;
-  refused = g.refused;
-  judges = judged_so_far reasons budget came written g s;
-  left = left;
-  begins = ap (λ (xs : List ℕ). written ++ xs) e ∙ sym (append_assoc written more left);
+  begins = record {
+    all = written ++ g.out;
+    refused = g.refused;
+    judges = judged_so_far reasons budget came written g s;
+    left = left;
+    begins = ap (λ (xs : List ℕ). written ++ xs) e ∙ sym (append_assoc written more left);
+  };
+}
+
+-- what is at the end is so for a reason
+pub cut_for : (reasons : Bool) (budget : ℕ) (bytes : List ℕ) (a b : Type 0) (written : List ℕ) → (a → b) → CutShort reasons budget bytes a written → CutShort reasons budget bytes b written
+cut_for reasons budget bytes a b written so cut = record {
+  first = cut.first;
+  later = cut.later;
+  bytes_are = cut.bytes_are;
+  ended = cut.ended;
+  whole = λ e. ((cut.whole e).0, so (cut.whole e).1);
+  begins = cut.begins;
 }
 
 -- memory is refused
 pub breaks_here : (g : Gathered) (held : Option (List ℕ)) (bytes : List ℕ) → Breaks g held held bytes
-breaks_here g held bytes = λ reasons budget came written later s. ([], Appends-nil held, cut_here reasons budget came (bytes ++ later) written g [] g.out s refl)
+breaks_here g held bytes = λ reasons budget came written later s. ([], Appends-nil held, cut_here reasons budget came (bytes ++ later) ⊥ written g [] g.out s refl)
 
 -- a write fails
 pub hand_breaks : (g : Gathered) (old new : Option (List ℕ)) (n : ℕ) → Appends old new (take n g.out) → Breaks g old new []
-hand_breaks g old new n put = λ reasons budget came written later s. (take n g.out, put, cut_here reasons budget came later written g (take n g.out) (drop n g.out) s (sym (take-append-drop n g.out)))
+hand_breaks g old new n put = λ reasons budget came written later s. (take n g.out, put, cut_here reasons budget came later ⊥ written g (take n g.out) (drop n g.out) s (sym (take-append-drop n g.out)))
 
 -- all is handed on
 pub handed : (g : Gathered) (old new : Option (List ℕ)) → Appends old new g.out → GoesOn g (record g { out = [] }) old new []
@@ -74,28 +87,30 @@ goes_breaks a b h i j xs ys first second = λ reasons budget came written later 
     let p = first reasons budget came written s in
     let q = second reasons budget (came ++ xs) (written ++ p.0) later p.2 in
     let bytes : (came ++ xs) ++ (ys ++ later) ≡ came ++ ((xs ++ ys) ++ later) = append_assoc came xs (ys ++ later) ∙ ap (λ (zs : List ℕ). came ++ zs) (sym (append_assoc xs ys later)) in
-    (p.0 ++ q.0, Appends-trans h i j p.0 q.0 p.1 q.1, subst (λ (w : List ℕ). CutShort reasons budget (came ++ ((xs ++ ys) ++ later)) w) (append_assoc written p.0 q.0) (subst (λ (zs : List ℕ). CutShort reasons budget zs ((written ++ p.0) ++ q.0)) bytes q.2))
+    (p.0 ++ q.0, Appends-trans h i j p.0 q.0 p.1 q.1, subst (λ (w : List ℕ). CutShort reasons budget (came ++ ((xs ++ ys) ++ later)) ⊥ w) (append_assoc written p.0 q.0) (subst (λ (zs : List ℕ). CutShort reasons budget zs ⊥ ((written ++ p.0) ++ q.0)) bytes q.2))
 
 -- more bytes come that nobody looks at
 pub breaks_more : (a : Gathered) (h i : Option (List ℕ)) (xs ys : List ℕ) → Breaks a h i xs → Breaks a h i (xs ++ ys)
 breaks_more a h i xs ys breaks = λ reasons budget came written later s.
     let q = breaks reasons budget came written (ys ++ later) s in
-    (q.0, q.1, subst (λ (zs : List ℕ). CutShort reasons budget zs (written ++ q.0)) (ap (λ (zs : List ℕ). came ++ zs) (sym (append_assoc xs ys later))) q.2)
+    (q.0, q.1, subst (λ (zs : List ℕ). CutShort reasons budget zs ⊥ (written ++ q.0)) (ap (λ (zs : List ℕ). came ++ zs) (sym (append_assoc xs ys later))) q.2)
 
 -- ---- the end of the input
 
-cut_at_end : (reasons : Bool) (budget : ℕ) (came written out : List ℕ) (refused : Bool) (n : ℕ) → Judges reasons budget came true (written ++ out) refused → CutShort reasons budget came (written ++ take n out)
+cut_at_end : (reasons : Bool) (budget : ℕ) (came written out : List ℕ) (refused : Bool) (n : ℕ) → Judges reasons budget came true (written ++ out) refused → CutShort reasons budget came ⊤ (written ++ take n out)
 cut_at_end reasons budget came written out refused n judges = record {
   first = came;
   later = [];
-  came_is = sym (append-nil came);
+  bytes_are = sym (append-nil came);
   ended = true;
-  whole = λ i. refl;
-  all = written ++ out;
-  refused = refused;
-  judges = judges;
-  left = drop n out;
-  begins = ap (λ (xs : List ℕ). written ++ xs) (sym (take-append-drop n out)) ∙ sym (append_assoc written (take n out) (drop n out));
+  whole = λ i. (refl, tt);
+  begins = record {
+    all = written ++ out;
+    refused = refused;
+    judges = judges;
+    left = drop n out;
+    begins = ap (λ (xs : List ℕ). written ++ xs) (sym (take-append-drop n out)) ∙ sym (append_assoc written (take n out) (drop n out));
+  };
 }
 
 -- all is handed on
@@ -110,7 +125,7 @@ end_breaks old new h i n ends put = λ reasons budget came written s. (take n ne
 -- memory is refused
 pub end_breaks_here : (g : Gathered) (held : Option (List ℕ)) → BreaksAtEnd g held held
 end_breaks_here g held = λ reasons budget came written s.
-    ([], Appends-nil held, subst (λ (zs : List ℕ). CutShort reasons budget zs (written ++ [])) (append-nil came) (cut_here reasons budget came [] written g [] g.out s refl))
+    ([], Appends-nil held, subst (λ (zs : List ℕ). CutShort reasons budget zs ⊤ (written ++ [])) (append-nil came) (cut_here reasons budget came [] ⊤ written g [] g.out s refl))
 
 -- ---- rows
 

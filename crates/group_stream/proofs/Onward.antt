@@ -1,6 +1,6 @@
 -- The loop over pieces.
-use Rattle.std.proofs.Common.{◌≡◌, ℕ, zero, suc, ◌≤◌, ◌+◌, ◌-◌, Bool, true, false, List, [], ◌∷◌, ◌++◌, Option, min, take, drop, take-append-drop, length, length-append, refl, sym, ◌∙◌, ap, subst, arith, append-nil, inl, inr}
-use Rattle.std.specs.Prelude.{Result, Ok, Err}
+use Rattle.std.proofs.Common.{◌≡◌, ℕ, zero, suc, ◌≤◌, ◌+◌, ◌-◌, Bool, true, false, List, [], ◌∷◌, ◌++◌, Option, min, take, length, length-append, refl, sym, ◌∙◌, ap, subst, arith, append-nil, inl, inr}
+use Rattle.std.specs.Prelude.{⊤, Result, Ok, Err}
 use Rattle.std.specs.Io.KnownBytes.{Appends, Consumes, IsAtEnd, Keeps}
 use Rattle.std.proofs.KnownBytes.{Appends-nil, Appends-trans, Consumes-kept, Consumes-nil, Consumes-trans}
 use Rattle.std.proofs.lemmas.List.{length-take}
@@ -8,14 +8,13 @@ use Rattle.cqa_value.proofs.Words.{cases_le}
 use Rattle.cqa_io.specs.Causes.{Rose}
 use Rattle.group_stream.specs.declared.ending.Stop.{Stop}
 use Rattle.group_stream.specs.declared.ending.Stop.TheVariants as stops
-use Rattle.group_stream.specs.declared.ending.StreamEnd.{StreamEnd}
 use Rattle.group_stream.specs.declared.ending.StreamEnd.TheVariants as ends
 use Rattle.group_stream.specs.Ends.{end_of, end_with}
 use Rattle.group_stream.specs.Judges.{CutShort, Judges}
 use Rattle.group_stream.specs.Steps.{Breaks, BreaksAtEnd, EndRow, Gathered, GoesOn, PieceRow, Stands}
-use Rattle.group_stream.specs.Streams.{Streamed, told}
+use Rattle.group_stream.specs.Streams.{Devices, IsAllRead, Streamed, told}
 use Rattle.group_stream.proofs.Cutting.{take_short}
-use Rattle.group_stream.proofs.Going.{judged_so_far}
+use Rattle.group_stream.proofs.Going.{cut_for, cut_here, judged_so_far}
 
 -- ---- first bytes
 
@@ -125,24 +124,32 @@ too_long reasons budget g l₀ l₁ h₀ h₁ r₀ r₁ w₀ w₁ count u e none
 
 -- the answers to a piece stop
 pub stopped : (reasons : Bool) (budget : ℕ) (stop : Stop) (rose : Type 0) (a b : Gathered) (l₀ l₁ l₂ h₀ h₁ h₂ : Option (List ℕ)) (r₀ r₁ w₀ w₁ count n kept : ℕ) (piece : List ℕ) → Under 9223372036854775807 reasons budget a l₀ l₁ h₀ h₁ count → count ≤ 9223372036854775807
-    → kept ≡ min n (9223372036854775807 - count) → Consumes l₁ l₂ (take n piece) → (rose → Rose w₀ w₁) → PieceRow (Err stop) rose a b h₁ h₂ (take kept piece) → Streamed reasons budget (end_of stop) (told l₀ h₀ r₀ w₀) (told l₂ h₂ r₁ w₁)
-stopped reasons budget stop rose a b l₀ l₁ l₂ h₀ h₁ h₂ r₀ r₁ w₀ w₁ count n kept piece u l k took later row = go stop row
+    → n ≤ 9223372036854775808 - count → n ≤ length piece → kept ≡ min n (9223372036854775807 - count) → Consumes l₁ l₂ (take n piece) → (rose → Rose w₀ w₁) → PieceRow (Err stop) rose a b h₁ h₂ (take kept piece) → Streamed reasons budget (end_of stop) (told l₀ h₀ r₀ w₀) (told l₂ h₂ r₁ w₁)
+stopped reasons budget stop rose a b l₀ l₁ l₂ h₀ h₁ h₂ r₀ r₁ w₀ w₁ count n kept piece u l few fits k took later row = go stop row
   where
-    seen : take 9223372036854775807 u.came ++ (take kept piece ++ drop kept (take n piece)) ≡ u.came ++ take n piece
-    seen =
-        let fewer : kept ≤ n = omega (arith, k) in
-        ap (λ (xs : List ℕ). take 9223372036854775807 u.came ++ (xs ++ drop kept (take n piece))) (sym (take_fewer kept n piece fewer)) ∙ ap (λ (xs : List ℕ). take 9223372036854775807 u.came ++ xs) (take-append-drop kept (take n piece))
-        ∙ ap (λ (xs : List ℕ). xs ++ take n piece) (all_came 9223372036854775807 count u.came u.count_is l)
+    all : List ℕ
+    all = u.came ++ take n piece
 
-    cut : (e : StreamEnd) (breaks : Breaks a h₁ h₂ (take kept piece)) → ((came written : List ℕ) → Consumes l₀ l₂ came → Appends h₀ h₂ written → CutShort reasons budget came written → Streamed reasons budget e (told l₀ h₀ r₀ w₀) (told l₂ h₂ r₁ w₁))
-        → Streamed reasons budget e (told l₀ h₀ r₀ w₀) (told l₂ h₂ r₁ w₁)
-    cut e breaks finish =
-        let q = breaks reasons budget (take 9223372036854775807 u.came) u.written (drop kept (take n piece)) u.stands in
-        finish (u.came ++ take n piece) (u.written ++ q.0) (Consumes-trans l₀ l₁ l₂ u.came (take n piece) u.took took) (Appends-trans h₀ h₁ h₂ u.written q.0 u.put q.1) (subst (λ (xs : List ℕ). CutShort reasons budget xs (u.written ++ q.0)) seen q.2)
+    now : Devices
+    now = told l₂ h₂ r₁ w₁
+
+    short : length all ≤ 9223372036854775808
+    short = omega (arith, counted u.came piece count n u.count_is fits, few, l)
+
+    seen : take 9223372036854775807 u.came ++ (take kept piece ++ []) ≡ take 9223372036854775807 all
+    seen = ap (λ (xs : List ℕ). take 9223372036854775807 u.came ++ xs) (append-nil (take kept piece)) ∙ sym (within 9223372036854775807 count n kept u.came piece u.count_is l k)
+
+    cut : (breaks : Breaks a h₁ h₂ (take kept piece)) → (written : List ℕ) × Appends h₀ h₂ written × CutShort reasons budget (take 9223372036854775807 all) (IsAllRead now all) written
+    cut breaks =
+        let q = breaks reasons budget (take 9223372036854775807 u.came) u.written [] u.stands in
+        (u.written ++ q.0, Appends-trans h₀ h₁ h₂ u.written q.0 u.put q.1, cut_for reasons budget (take 9223372036854775807 all) ⊥ (IsAllRead now all) (u.written ++ q.0) (λ no. absurd no) (subst (λ (xs : List ℕ). CutShort reasons budget xs ⊥ (u.written ++ q.0)) seen q.2))
+
+    all_took : Consumes l₀ l₂ all
+    all_took = Consumes-trans l₀ l₁ l₂ u.came (take n piece) u.took took
 
     go : (x : Stop) → PieceRow (Err x) rose a b h₁ h₂ (take kept piece) → Streamed reasons budget (end_of x) (told l₀ h₀ r₀ w₀) (told l₂ h₂ r₁ w₁)
-    go stops.WriteFault r = cut ends.WriteFault r.1 (λ came written t p c. record { came = came; written = written; took = t; put = p; row = (later r.0, c) })
-    go stops.OutOfMemory r = cut ends.OutOfMemory r (λ came written t p c. record { came = came; written = written; took = t; put = p; row = c })
+    go stops.WriteFault r = let q = cut r.1 in record { came = all; written = q.0; took = all_took; put = q.1; row = (later r.0, short, q.2) }
+    go stops.OutOfMemory r = let q = cut r in record { came = all; written = q.0; took = all_took; put = q.1; row = (short, q.2) }
 
 -- the input ends
 pub finished : (reasons : Bool) (budget : ℕ) (r : Result Bool Stop) (rose : Type 0) (a : Gathered) (l₀ l₁ l₂ h₀ h₁ h₂ : Option (List ℕ)) (r₀ r₁ w₀ w₁ count : ℕ) (bytes : List ℕ) → Under 9223372036854775807 reasons budget a l₀ l₁ h₀ h₁ count → count ≤ 9223372036854775807
@@ -161,10 +168,16 @@ finished reasons budget r rose a l₀ l₁ l₂ h₀ h₁ h₂ r₀ r₁ w₀ w�
     judges : (refused : Bool) (more : List ℕ) → Judges reasons budget (take 9223372036854775807 u.came) true (u.written ++ more) refused → Judges reasons budget u.came true (u.written ++ more) refused
     judges refused more = subst (λ (xs : List ℕ). Judges reasons budget xs true (u.written ++ more) refused) same
 
-    broken : BreaksAtEnd a h₁ h₂ → (written : List ℕ) × Appends h₀ h₂ written × CutShort reasons budget u.came written
+    now : Devices
+    now = told l₂ h₂ r₁ w₁
+
+    one_more : length u.came ≤ 9223372036854775808
+    one_more = omega (arith, short)
+
+    broken : BreaksAtEnd a h₁ h₂ → (written : List ℕ) × Appends h₀ h₂ written × CutShort reasons budget (take 9223372036854775807 u.came) (IsAllRead now u.came) written
     broken breaks =
         let q = breaks reasons budget (take 9223372036854775807 u.came) u.written u.stands in
-        (u.written ++ q.0, Appends-trans h₀ h₁ h₂ u.written q.0 u.put q.1, subst (λ (xs : List ℕ). CutShort reasons budget xs (u.written ++ q.0)) same q.2)
+        (u.written ++ q.0, Appends-trans h₀ h₁ h₂ u.written q.0 u.put q.1, cut_for reasons budget (take 9223372036854775807 u.came) ⊤ (IsAllRead now u.came) (u.written ++ q.0) (λ yes. (end, short)) q.2)
 
     go : (x : Result Bool Stop) → EndRow x rose a h₁ h₂ → Streamed reasons budget (end_with x) (told l₀ h₀ r₀ w₀) (told l₂ h₂ r₁ w₁)
     go (Ok true) f =
@@ -173,8 +186,8 @@ finished reasons budget r rose a l₀ l₁ l₂ h₀ h₁ h₂ r₀ r₁ w₀ w�
     go (Ok false) f =
         let q = f reasons budget (take 9223372036854775807 u.came) u.written u.stands in
         record { came = u.came; written = u.written ++ q.0; took = all_took; put = Appends-trans h₀ h₁ h₂ u.written q.0 u.put q.1; row = (end, short, judges false q.0 q.2) }
-    go (Err stops.WriteFault) f = let q = broken f.1 in record { came = u.came; written = q.0; took = all_took; put = q.1; row = (later f.0, q.2) }
-    go (Err stops.OutOfMemory) f = let q = broken f in record { came = u.came; written = q.0; took = all_took; put = q.1; row = q.2 }
+    go (Err stops.WriteFault) f = let q = broken f.1 in record { came = u.came; written = q.0; took = all_took; put = q.1; row = (later f.0, one_more, q.2) }
+    go (Err stops.OutOfMemory) f = let q = broken f in record { came = u.came; written = q.0; took = all_took; put = q.1; row = (one_more, q.2) }
 
 -- memory is refused before anything is read
 pub unread : (reasons : Bool) (budget : ℕ) (g : Gathered) (l h : Option (List ℕ)) (r w : ℕ) → Stands reasons budget [] [] g → Streamed reasons budget ends.OutOfMemory (told l h r w) (told l h r w)
@@ -183,5 +196,5 @@ unread reasons budget g l h r w s = record {
   written = [];
   took = Consumes-nil l;
   put = Appends-nil h;
-  row = record { first = []; later = []; came_is = refl; ended = false; whole = λ e. refl; all = g.out; refused = g.refused; judges = judged_so_far reasons budget [] [] g s; left = g.out; begins = refl };
+  row = (omega arith, cut_here reasons budget [] [] (IsAllRead (told l h r w) []) [] g [] g.out s refl);
 }

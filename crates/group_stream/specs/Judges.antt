@@ -22,15 +22,20 @@ pub record Judges (reasons : Bool) (budget : ℕ) (bytes : List ℕ) (ended : Bo
   pub cut : AreCut bytes done rest
   pub replied : Replies reasons budget (events_of ended done rest) written refused
 
--- What was written begins such a text for the first of the bytes, or for all of them as an input that has ended.
-pub record CutShort (reasons : Bool) (budget : ℕ) (came : List ℕ) (written : List ℕ) : Type 0 where
-  pub first : List ℕ
-  pub later : List ℕ
-  pub came_is : came ≡ first ++ later
-  pub ended : Bool
-  pub whole : ended ≡ true → later ≡ []
+-- What was written begins such a text.
+pub record BeginsReplies (reasons : Bool) (budget : ℕ) (bytes : List ℕ) (ended : Bool) (written : List ℕ) : Type 0 where
   pub all : List ℕ
   pub refused : Bool
-  pub judges : Judges reasons budget first ended all refused
+  pub judges : Judges reasons budget bytes ended all refused
   pub left : List ℕ
   pub begins : all ≡ written ++ left
+
+-- The answers to the bytes were cut short: what was written begins the replies to the first of them, or, only at the end of the input, to all of
+-- them as an input that has ended.
+pub record CutShort (reasons : Bool) (budget : ℕ) (bytes : List ℕ) (at_end : Type 0) (written : List ℕ) : Type 0 where
+  pub first : List ℕ
+  pub later : List ℕ
+  pub bytes_are : bytes ≡ first ++ later
+  pub ended : Bool
+  pub whole : ended ≡ true → (later ≡ []) × at_end
+  pub begins : BeginsReplies reasons budget first ended written

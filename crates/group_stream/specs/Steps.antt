@@ -1,5 +1,5 @@
 -- What the parts of the loop do.
-use Rattle.std.specs.Prelude.{◌≡◌, ℕ, suc, Bool, true, List, ◌++◌, ◌+◌, ◌≤◌, ◌||◌, length, take, Option, Result, Ok, Err}
+use Rattle.std.specs.Prelude.{◌≡◌, ⊤, ℕ, suc, Bool, true, List, ◌++◌, ◌+◌, ◌≤◌, ◌||◌, length, take, Option, Result, Ok, Err}
 use Rattle.std.specs.Io.KnownBytes.{Appends}
 use Rattle.group_text.specs.declared.limits.TheConstants.{LONGEST_LINE}
 use Rattle.group_text.specs.Groups.{after, events}
@@ -63,15 +63,15 @@ abbrev pub GoesOn : Gathered → Gathered → Option (List ℕ) → Option (List
 GoesOn old new held_old held_new bytes =
     (reasons : Bool) (budget : ℕ) (came written : List ℕ) → Stands reasons budget came written old → (more : List ℕ) × Appends held_old held_new more × Stands reasons budget (came ++ bytes) (written ++ more) new
 
--- What the sink took begins what is replied to the bytes, whatever comes later.
+-- What the sink took begins what is replied to the bytes, whatever comes later. They weren't taken for an input that has ended.
 abbrev pub Breaks : Gathered → Option (List ℕ) → Option (List ℕ) → List ℕ → Type 0
 Breaks old held_old held_new bytes =
-    (reasons : Bool) (budget : ℕ) (came written later : List ℕ) → Stands reasons budget came written old → (more : List ℕ) × Appends held_old held_new more × CutShort reasons budget (came ++ (bytes ++ later)) (written ++ more)
+    (reasons : Bool) (budget : ℕ) (came written later : List ℕ) → Stands reasons budget came written old → (more : List ℕ) × Appends held_old held_new more × CutShort reasons budget (came ++ (bytes ++ later)) ⊥ (written ++ more)
 
 -- What the sink took begins what is replied to an input that has ended.
 abbrev pub BreaksAtEnd : Gathered → Option (List ℕ) → Option (List ℕ) → Type 0
 BreaksAtEnd old held_old held_new =
-    (reasons : Bool) (budget : ℕ) (came written : List ℕ) → Stands reasons budget came written old → (more : List ℕ) × Appends held_old held_new more × CutShort reasons budget came (written ++ more)
+    (reasons : Bool) (budget : ℕ) (came written : List ℕ) → Stands reasons budget came written old → (more : List ℕ) × Appends held_old held_new more × CutShort reasons budget came ⊤ (written ++ more)
 
 -- how bytes were taken
 abbrev pub PieceRow : Result (Unit {0}) Stop → (rose : Type 0) → Gathered → Gathered → Option (List ℕ) → Option (List ℕ) → List ℕ → Type 0

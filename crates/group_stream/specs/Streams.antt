@@ -17,13 +17,17 @@ pub record Devices : Type 0 where
 abbrev pub told : (left held : Option (List ℕ)) (reads writes : ℕ) → Devices
 told left held reads writes = record { left = left; held = held; reads = reads; writes = writes }
 
+-- the source has nothing left, and no byte past the limit came
+abbrev pub IsAllRead : Devices → List ℕ → Type 0
+IsAllRead now came = IsAtEnd now.left × (length came ≤ MOST_JUDGED)
+
 -- The row of each ending, with the bytes that came and those that were written.
 abbrev pub StreamRow : Bool → ℕ → StreamEnd → Devices → Devices → List ℕ → List ℕ → Type 0
 StreamRow reasons budget Answered before now came written = IsAtEnd now.left × (length came ≤ MOST_JUDGED) × Judges reasons budget came true written false
 StreamRow reasons budget WithRefusal before now came written = IsAtEnd now.left × (length came ≤ MOST_JUDGED) × Judges reasons budget came true written true
 StreamRow reasons budget ReadFault before now came written = Rose before.reads now.reads × (length came ≤ MOST_JUDGED) × ((refused : Bool) × Judges reasons budget came false written refused)
-StreamRow reasons budget WriteFault before now came written = Rose before.writes now.writes × CutShort reasons budget came written
-StreamRow reasons budget OutOfMemory before now came written = CutShort reasons budget came written
+StreamRow reasons budget WriteFault before now came written = Rose before.writes now.writes × (length came ≤ MOST_JUDGED + 1) × CutShort reasons budget (take MOST_JUDGED came) (IsAllRead now came) written
+StreamRow reasons budget OutOfMemory before now came written = (length came ≤ MOST_JUDGED + 1) × CutShort reasons budget (take MOST_JUDGED came) (IsAllRead now came) written
 StreamRow reasons budget TooLong before now came written = (length came ≡ MOST_JUDGED + 1) × ((refused : Bool) × Judges reasons budget (take MOST_JUDGED came) false written refused)
 
 -- The stream ended so: with the bytes that came and those that were written, where they are told.

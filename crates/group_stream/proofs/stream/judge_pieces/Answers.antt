@@ -31,7 +31,7 @@ pub returns-in-Err-take_piece-clause-row : goal.returns-in-Err-take_piece-clause
 returns-in-Err-take_piece-clause-row g c = λ reasons budget s.
     subst (λ (e : StreamEnd). Streamed reasons budget e (told (g.S.Source.left c.args.source.now) (g.K.Sink.held c.args.sink.now) (g.S.Source.faults c.args.source.now) (g.K.Sink.faults c.args.sink.now)) (told (g.S.Source.left c.read_piece.new.source) (g.K.Sink.held c.take_piece.new.sink) (g.S.Source.faults c.read_piece.new.source) (g.K.Sink.faults c.take_piece.new.sink))) (sym c.end_of.ensures)
     (stopped reasons budget c.in-Err-take_piece.stop (Rose (g.K.Sink.faults c.loop-came.sink) (g.K.Sink.faults c.take_piece.new.sink)) c.loop-came.gathering c.take_piece.new.self (g.S.Source.left c.args.source.now) (g.S.Source.left c.loop-came.source) (g.S.Source.left c.read_piece.new.source) (g.K.Sink.held c.args.sink.now) (g.K.Sink.held c.loop-came.sink) (g.K.Sink.held c.take_piece.new.sink) (g.S.Source.faults c.args.source.now) (g.S.Source.faults c.read_piece.new.source) (g.K.Sink.faults c.args.sink.now) (g.K.Sink.faults c.take_piece.new.sink) c.loop-came.came c.in-Ok.count
-    c.min-kept.result c.read_piece.new.piece (c.loop-came.invariant.under reasons budget s) (omega (arith, c.loop-came-test.true)) c.min-kept.ensures c.in-Ok.ensures.came.0 (rose_later (g.K.Sink.faults c.args.sink.now) (g.K.Sink.faults c.loop-came.sink) (g.K.Sink.faults c.take_piece.new.sink) c.loop-came.invariant.writes) c.in-Err-take_piece.ensures.row)
+    c.min-kept.result c.read_piece.new.piece (c.loop-came.invariant.under reasons budget s) (omega (arith, c.loop-came-test.true)) c.in-Ok.ensures.within.0 c.in-Ok.ensures.within.1 c.min-kept.ensures c.in-Ok.ensures.came.0 (rose_later (g.K.Sink.faults c.args.sink.now) (g.K.Sink.faults c.loop-came.sink) (g.K.Sink.faults c.take_piece.new.sink) c.loop-came.invariant.writes) c.in-Err-take_piece.ensures.row)
 
 pub loop-came-preserved : goal.loop-came-preserved
 loop-came-preserved g c = record {
