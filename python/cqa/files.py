@@ -50,7 +50,8 @@ def written(path: str) -> Iterator[BinaryIO]:
     try:
         number, beside = tempfile.mkstemp(prefix="." + os.path.basename(path) + ".", dir=folder)
     except OSError as fault:
-        raise OSError(fault.errno, fault.strerror, folder) from None
+        takes_none = fault.errno == errno.ENOENT and os.path.isdir(folder)
+        raise OSError(fault.errno, "it takes no new file" if takes_none else fault.strerror, folder) from None
     try:
         with os.fdopen(number, "wb") as file:
             yield file

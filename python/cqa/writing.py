@@ -70,6 +70,7 @@ class Writing:
         self._are_dates = is_free
         self._marks: Dict[str, List[str]] = {}  # by mark, the lists that have it
         self._most_places = 0
+        self._other_places: Set[str] = set()  # the marks that stand before other than three digits somewhere, so that they mark no thousands
         self._dates: Dict[str, _Dates] = {}
         self._nulls: Dict[str, _First] = {}
         self._feeds: Dict[str, _First] = {}
@@ -117,6 +118,8 @@ class Writing:
             if self._list not in lists:
                 lists.append(self._list)
             self._most_places = max(self._most_places, len(places))
+            if len(places) != 3:
+                self._other_places.add(mark)
 
     def _look_for_dates(self, fields: Sequence[str], joined: str) -> None:
         self._are_dates = _DATES.fullmatch(joined) is not None
@@ -131,8 +134,12 @@ class Writing:
     def _number_notes(self, name: str) -> List[str]:
         if not self._are_numbers or not self._marks:
             return []
+        thousands = sorted(self._marks.keys() - self._other_places)
         if len(self._marks) == 1:
             mark = " --decimal-mark ," if "," in self._marks else ""
+            if thousands:
+                return ["%s holds numbers with %s before three digits each time, and is text: where it marks places, --decimal %s:3%s stores them; "
+                        "where it marks thousands, take it out of the list first" % (name, thousands[0], name, mark)]
             return ["%s holds numbers and is text, which compares by its bytes: --decimal %s:%d%s stores such numbers with %s"
                     % (name, name, self._most_places, mark, _places(self._most_places))]
         commas, points = self._marks[","], self._marks["."]
@@ -140,8 +147,9 @@ class Writing:
         if both:
             return ["%s holds numbers, with , and with . before the places in the same list, %s: which mark stands before the places?" % (name, both[0])]
         options = " ".join("--decimal-mark %s=," % one for one in commas)
-        return ["%s holds numbers, with , before the places in %s and with . in %s, so that equal ones differ: --decimal %s:%d %s stores both with %s"
-                % (name, " and ".join(commas), " and ".join(points), name, self._most_places, options, _places(self._most_places))]
+        return ["%s holds numbers, with , before the places in %s and with . in %s, so that equal ones differ: --decimal %s:%d %s stores both with %s%s"
+                % (name, " and ".join(commas), " and ".join(points), name, self._most_places, options, _places(self._most_places),
+                   "; but if %s marks thousands, as it stands before three digits each time, take it out of the list first" % thousands[0] if thousands else "")]
 
     def _sign_notes(self, name: str) -> List[str]:
         if not self._are_numbers or self._signed is None:

@@ -76,6 +76,29 @@ class Together(Case):
         self.file("one.csv", "id;credit\n1;2,5\n2;2.5\n")
         self.assertIn("credit holds numbers, with , and with . before the places in the same list, one.csv: which mark stands before the places?", self.told("one.csv")[2])
 
+    def test_marks_that_may_be_of_thousands(self) -> None:
+        self.file("a.csv", 'id,v\n1,"1,234"\n2,"5,678"\n3,9\n')
+        self.file("b.csv", "id,v\n1,1234.5\n2,5678\n")
+        self.assertIn("v holds numbers with , before three digits each time, and is text: where it marks places, --decimal v:3 --decimal-mark , stores them; "
+                      "where it marks thousands, take it out of the list first", self.told("a.csv")[2])
+        self.assertIn("; but if , marks thousands, as it stands before three digits each time, take it out of the list first",
+                      "\n".join(self.told("--source", "a=a.csv", "--source", "b=b.csv")[2]))
+        self.file("c.csv", 'id,v\n1,"1,234"\n2,"5,67"\n')
+        self.assertNotIn("thousands", "\n".join(self.told("c.csv")[2]))
+
+    def test_numbers_with_a_sign(self) -> None:
+        self.file("a.csv", "id,n\n1,+5\n2,+7.5\n")
+        self.file("b.csv", "id,n\n1,5\n2,7.5\n")
+        self.assertIn("n: 2 fields written with a sign, as +5 in a.csv:2, which differs from the number without it: --decimal n:1 stores both as one",
+                      self.told("--source", "a=a.csv", "--source", "b=b.csv")[2])
+        self.assertIn('"1","50","a"', self.script("--decimal", "n:1", "--source", "a=a.csv", "--source", "b=b.csv"))
+        self.file("c.csv", "id,n\n1,+47 22\n2,5\n")
+        self.assertNotIn("sign", "\n".join(self.told("c.csv")[2]))
+
+    def test_a_field_written_for_a_spreadsheet(self) -> None:
+        self.file("a.csv", 'id,zip\n1,="0012"\n2,="0013"\n')
+        self.assertIn('zip: 2 fields written as for a spreadsheet, as ="0012" in a.csv:2; such a text differs from the one without', self.told("a.csv")[2])
+
     def test_dates_in_two_forms(self) -> None:
         self.file("crm.csv", "id,since\n1,28.09.2018\n2,1.3.2020\n")
         self.file("shop.csv", "id,since\n1,2018-09-28\n2,2020-03-01\n")

@@ -44,6 +44,10 @@ class ByLines(ProgramCase):
         self.assertEqual(lines(told)[:3], ["no table nope", "\\save FILE: the name of one file is wanted", "/nodir: no such file or directory"])
         self.assertEqual((lines(told)[3][:17], lines(told)[4]), ("no statement foo;", "a quote has no end"))
 
+    def test_a_folder_that_takes_no_file(self) -> None:
+        if os.path.isdir("/proc/self"):
+            self.assertEqual((1, "", "/proc: it takes no new file\n"), self.shell("\\save /proc/x.cqa\n"))
+
     def test_rows_that_dont_fit(self) -> None:
         told = self.shell(STAFF + "insert into staff values (1, 2, 3);\ninsert into staff values ('1', 'a', 3);\ninsert into staff values (1, 'a');\n")[2]
         self.assertEqual([line for line in lines(told) if line.startswith("error")], [
