@@ -560,7 +560,7 @@ def compare_with_ask(program, first, count):
             base.execute("create table %s (%s)" % (identifier(table.name), ", ".join(
                 "%s %s not null" % (identifier(name), "bigint" if kind == "int" else "text") for name, kind in table.columns)))
             base.executemany("insert into %s values (%s)" % (identifier(table.name), ", ".join("?" * len(table.columns))), twice(table.rows, pick))
-        keys = {table.name.lower(): [table.columns[place][0].lower() for place in table.key] for table in script.tables}
+        keys = {identifier(table.name): [identifier(table.columns[place][0]) for place in table.key] for table in script.tables}
         questions = script.queries + script.unions
         for query, (asked,) in zip(questions, replies(program, script.creates() + script.inserts(), questions, ["ask"])):
             found = reply_of(query, list(Database(base, keys, tables=pick.random() < 0.5).certain(sql_of(query))))
