@@ -1,12 +1,13 @@
 #!/usr/bin/env python3
 """How long certain answers of SQL take over a database of the user's own, beside the plain query in the same run.
 
-    bench/database.py [PROGRAM] [--engine sqlite|postgres] [--rows N] [--percent P] [QUERY ..]
+    bench/database.py [PROGRAM] [--engine sqlite|postgres] [--rows N] [--percent P] [--tpch SCALE] [--query NAME ..]
 
 Makes N orders (1,000,000), a fifth as many customers and a thousand cities, of whose keys P percent (1) have two rows, with an index on
 each key, and asks seven queries: a join with filters (join), a join that gives most of a table back (wide), three tables with few answers
 (three), a table joined with itself (self), one customer (point), one table (one), a union with EXISTS (union). The plain query is asked
-with DISTINCT, as answers are a set. Printed are processor seconds of the server and of the client (of SQLite both together), seconds of
+with DISTINCT, as answers are a set. With --tpch, tables of TPC-H at a scale are made instead (0.1 is 600,000 lines of orders), and ten of its
+queries are asked, without their aggregates. Printed are processor seconds of the server and of the client (of SQLite both together), seconds of
 the clock, and the numbers of answers; the time of `judge` is the client's. PostgreSQL is started in a temporary folder, over a socket
 alone, and ended.
 """
@@ -23,6 +24,7 @@ import time
 TOP = os.path.dirname(os.path.dirname(os.path.abspath(__file__)))
 sys.path[:0] = [os.path.join(TOP, "python"), os.path.join(TOP, "differential")]
 
+import tpch  # noqa: E402
 from cqa.database import Database  # noqa: E402
 
 KEYS = {"customer": "id", "orders": "oid", "city": "city"}
@@ -63,13 +65,13 @@ class InSQLite:
     def __init__(self, folder):
         self.connection = sqlite3.connect(os.path.join(folder, "bench.db"), isolation_level=None)
 
-    def make(self, table, columns, rows, key):
+    def make(self, table, columns, rows, indexes):
         self.connection.execute("create table %s (%s)" % (table, columns))
         self.connection.execute("begin")
         self.connection.executemany("insert into %s values (%s)" % (table, ",".join("?" * (columns.count(",") + 1))), rows)
         self.connection.execute("commit")
-        for column in key:
-            self.connection.execute("create index %s_%s on %s (%s)" % (table, column, table, column))
+        for number, index in enumerate(indexes):
+            self.connection.execute("create index %s_%d on %s (%s)" % (table, number, table, index))
 
     def ready(self):
         self.connection.execute("analyze")
@@ -93,13 +95,13 @@ class InPostgres:
         self.connection = psycopg2.connect(host=self.server.folder, dbname="postgres", user="postgres" if os.geteuid() == 0 else None)
         self.connection.autocommit = True
 
-    def make(self, table, columns, rows, key):
+    def make(self, table, columns, rows, indexes):
         import io
         cursor = self.connection.cursor()
         cursor.execute("create table %s (%s)" % (table, columns))
         cursor.copy_from(io.StringIO("".join("\t".join(map(str, row)) + "\n" for row in rows)), table)
-        for column in key:
-            cursor.execute("create index on %s (%s)" % (table, column))
+        for index in indexes:
+            cursor.execute("create index on %s (%s)" % (table, index))
 
     def ready(self):
         self.connection.cursor().execute("vacuum analyze")
@@ -145,21 +147,25 @@ def main():
     parser.add_argument("--engine", choices=["sqlite", "postgres"], default="sqlite")
     parser.add_argument("--rows", type=int, default=1_000_000)
     parser.add_argument("--percent", type=int, default=1)
-    parser.add_argument("--query", action="append", choices=list(QUERIES))
+    parser.add_argument("--tpch", type=float, metavar="SCALE")
+    parser.add_argument("--query", action="append", choices=[*QUERIES, *tpch.QUERIES])
     told = parser.parse_args()
+    keys, queries = (tpch.KEYS, tpch.QUERIES) if told.tpch else (KEYS, QUERIES)
     if told.program:
         os.environ["CQA_PROGRAM"] = os.path.abspath(told.program)
     with tempfile.TemporaryDirectory() as folder:
         db = InSQLite(folder) if told.engine == "sqlite" else InPostgres(folder)
         try:
-            for table, columns in TABLES.items():
-                db.make(table, columns, rows_of(table, told.rows, told.percent), ["oid", "cid"] if table == "orders" else [KEYS[table]])
+            for table, columns in (tpch.TABLES if told.tpch else TABLES).items():
+                rows = tpch.rows_of(table, told.tpch, told.percent) if told.tpch else rows_of(table, told.rows, told.percent)
+                more = tpch.INDEXES.get(table, []) if told.tpch else ["cid"] if table == "orders" else []
+                db.make(table, columns, rows, [keys[table] if isinstance(keys[table], str) else ", ".join(keys[table]), *more])
             db.ready()
-            asked = Database(db.connection, KEYS)
+            asked = Database(db.connection, keys)
             print("%-6s %21s   %28s   %s" % ("", "plain: server, client", "certain: server, client, clock", "answers, certain"))
-            for name in told.query or QUERIES:
-                plain = timed(db, lambda: db.plain(QUERIES[name]))
-                certain = timed(db, lambda: sum(1 for _ in asked.certain(QUERIES[name])))
+            for name in told.query or queries:
+                plain = timed(db, lambda: db.plain(queries[name]))
+                certain = timed(db, lambda: sum(1 for _ in asked.certain(queries[name])))
                 ratio = (certain[1] + certain[2]) / max(0.001, plain[1] + plain[2])
                 print("%-6s %10.2f %10.2f   %8.2f %8.2f %8.2f  %4.1f times  %d, %d" % (name, *plain[1:3], *certain[1:], ratio, plain[0], certain[0]), flush=True)
         finally:

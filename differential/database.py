@@ -1,7 +1,7 @@
 #!/usr/bin/env python3
 """Certain answers of random SQL over a database of the user's own, compared with the same text over each repair.
 
-    differential/database.py [PROGRAM] [--engine sqlite|postgres|mariadb] [--seed S] [--count N]
+    differential/database.py [PROGRAM] [--engine sqlite|postgres|mariadb] [--seed S] [--count N] [--ask]
 
 Small random tables break their keys; random queries (joins of a table with itself, OR, IN, EXISTS, correlated and nested, derived tables,
 views, WITH, unions, NULLs, functions) run as they stand over each repair. Their rows in all repairs have to be `certain`, those in some
@@ -9,6 +9,9 @@ views, WITH, unions, NULLs, functions) run as they stand over each repair. Their
 disputed answers has to be counted by `clean_first` as often at least. SQLite is asked by temporary tables and by one statement, with plain
 texts where the seed is even, and else with NOCASE. PostgreSQL and MariaDB are started in a temporary folder, over a socket alone, and
 ended; where one or its driver for Python isn't installed, it says so and compares nothing.
+
+With --ask, random queries and unions of the program's own language are put into SQL instead, over tables in SQLite: the certain rows have to
+be those of `ask` over the same rows.
 """
 
 import argparse
@@ -26,6 +29,7 @@ import time
 from decimal import Decimal
 
 from shards import Server, tool
+from sql import PROGRAM, identifier, random_script, replies, reply_of, twice
 
 sys.path.insert(0, os.path.join(os.path.dirname(os.path.dirname(os.path.abspath(__file__))), "python"))
 
@@ -530,16 +534,60 @@ def compare(db, seed, count):
     return whole, reasons
 
 
+# Comparing with `ask`.
+
+def sql_of(query):
+    """A query or a union of the program's language as SQL."""
+    if hasattr(query, "parts"):
+        return " union ".join(map(sql_of, query.parts))
+    name = lambda column: "%s.%s" % tuple(map(identifier, query.name(column).split(".")))
+    literal = lambda value: str(value) if isinstance(value, int) else "'%s'" % value.replace("'", "''")
+    tests = ["%s = %s" % (name(left), name(right)) for left, right in query.joins]
+    tests += ["%s %s %s" % (name(column), sign, literal(value)) for column, sign, value in query.tests]
+    return "select %s from %s%s" % (", ".join(map(name, query.answer)) or "1", ", ".join(identifier(table.name) for table in query.tables),
+                                    " where " + " and ".join(tests) if tests else "")
+
+
+def compare_with_ask(program, first, count):
+    """How many queries of random scripts have the certain rows of `ask`."""
+    compared_so_far = 0
+    for seed in itertools.count(first):
+        if compared_so_far >= count:
+            return compared_so_far
+        pick, script = random_script(seed)
+        base = sqlite3.connect(":memory:", isolation_level=None)
+        for table in script.tables:
+            base.execute("create table %s (%s)" % (identifier(table.name), ", ".join(
+                "%s %s not null" % (identifier(name), "bigint" if kind == "int" else "text") for name, kind in table.columns)))
+            base.executemany("insert into %s values (%s)" % (identifier(table.name), ", ".join("?" * len(table.columns))), twice(table.rows, pick))
+        keys = {table.name.lower(): [table.columns[place][0].lower() for place in table.key] for table in script.tables}
+        questions = script.queries + script.unions
+        for query, (asked,) in zip(questions, replies(program, script.creates() + script.inserts(), questions, ["ask"])):
+            found = reply_of(query, list(Database(base, keys, tables=pick.random() < 0.5).certain(sql_of(query))))
+            if found != asked:
+                raise Differs("script %d: %s\nask:\n%sdatabase:\n%s" % (seed, query.text(), asked, found))
+            compared_so_far += 1
+        base.close()
+
+
 def main():
     parser = argparse.ArgumentParser(description=__doc__.split("\n")[0])
     parser.add_argument("program", nargs="?")
     parser.add_argument("--engine", choices=["sqlite", "postgres", "mariadb"], default="sqlite")
     parser.add_argument("--seed", type=int, default=1)
     parser.add_argument("--count", type=int, default=500)
+    parser.add_argument("--ask", action="store_true", help="compare with `ask`, over SQLite")
     parser.add_argument("--reasons", action="store_true", help="write why queries were refused, with one of each")
     told = parser.parse_args()
     if told.program:
         os.environ["CQA_PROGRAM"] = os.path.abspath(told.program)
+    if told.ask:
+        try:
+            print("%d queries have the certain rows of `ask`" % compare_with_ask(os.environ.get("CQA_PROGRAM", PROGRAM), told.seed, told.count))
+            return 0
+        except Differs as fault:
+            print("differs: %s" % fault, file=sys.stderr)
+            return 1
     with tempfile.TemporaryDirectory() as folder:
         try:
             db = InSQLite(told.seed) if told.engine == "sqlite" else InPostgres(folder) if told.engine == "postgres" else InMaria(folder)

@@ -182,9 +182,18 @@ def proved(folder, crates, teller, log):
         is_over.set()
     if status < 0:
         raise NotBuilt("the build was ended by signal %d, most likely for memory; what was proved so far is kept for the next one" % -status)
+    log.flush()
+    if status and is_full(log.name):
+        raise NotBuilt("the disk has no room for the build, which wants 3 GB in the temporary folder; TMPDIR names another place; %s says more" % LOG)
     if status:
         raise NotBuilt("the build failed%s; %s says why" % (" at " + refused[0] if refused else "", LOG))
     return progress.spent
+
+
+def is_full(log):
+    """Whether a log tells that a disk is full."""
+    with open(log, "rb") as file:
+        return re.search(rb"No space left on device|os error 28|the disk is full", file.read()) is not None
 
 
 def build(teller, began):

@@ -11,8 +11,8 @@ import subprocess
 import sys
 import time
 import unittest
-from contextlib import redirect_stderr
-from typing import Dict, List, Tuple
+from contextlib import redirect_stderr, redirect_stdout
+from typing import Callable, Dict, List, Tuple
 from unittest import mock
 
 from support import PROGRAM, TOP, Case, ProgramCase
@@ -21,12 +21,15 @@ from cqa import trying
 
 sys.path.insert(0, os.path.join(TOP, "tools"))
 
+import building  # noqa: E402
+import testing  # noqa: E402
 from progress import Progress, crates_below, measured  # noqa: E402
 
 #: A kit whose gate takes a moment for each crate, and which makes a program of a line.
 BUILDS = """#!/bin/sh
 if [ "$1" = version ]; then echo kit; exit; fi
 for name in low cqa_cli; do
+  if [ -e "$ROOM/full" ]; then echo "error: cannot write: No space left on device (os error 28)"; exit 1; fi
   if [ -e "$ROOM/refuses" ]; then echo "rt: $name NOT PROVED"; echo "rt: FAILED: $name"; exit 1; fi
   while [ -n "$WAITS" ] && [ ! -e "$ROOM/go" ]; do echo >>"$ROOM/waiting"; sleep 0.1; done
   echo "rt: $name proved"
@@ -59,12 +62,23 @@ for name in sorted(name for name in os.listdir(folder) if not name.endswith(".ar
     print("case=%s %s proved=no" % (name, said), file=sys.stderr, flush=True)
 """
 
+#: A kit whose compile doesn't end.
+WAITS = "#!/bin/sh\nwhile true; do echo >>\"$ROOM/waiting\"; sleep 0.1; done\n"
+
 LISTS = "create table t (id int, name text, source text, primary key (id));\ncopy t;\n1,a,x\n1,b,y\n2,c,x\n\\.\n"
 
 
 def _heeds_interrupts() -> None:
     """In the background of a shell, Ctrl-C is ignored by what is started there."""
     signal.signal(signal.SIGINT, signal.SIG_DFL)
+
+
+def _as_another_user() -> None:
+    """Root may write everywhere."""
+    if os.geteuid() == 0:
+        os.setgroups([])
+        os.setgid(65534)
+        os.setuid(65534)
 
 
 class KitCase(Case):
@@ -82,6 +96,43 @@ class KitCase(Case):
     def left(self) -> List[str]:
         """What is left in the temporary folder."""
         return os.listdir(self.path("tmp"))
+
+    def is_waiting(self) -> bool:
+        """Whether a kit still runs that waits."""
+        if not os.path.exists(self.path("waiting")):
+            return False
+        size = os.path.getsize(self.path("waiting"))
+        time.sleep(1)
+        return os.path.getsize(self.path("waiting")) > size
+
+    def begun(self, *words: str, environment: Dict[str, str]) -> "subprocess.Popen[bytes]":
+        """Begins a command, and gives it once its kit waits."""
+        process = subprocess.Popen(words, env=environment, cwd=self.folder, stdin=subprocess.DEVNULL, stdout=subprocess.PIPE, stderr=subprocess.PIPE,
+                                   start_new_session=True, preexec_fn=_heeds_interrupts)
+        self.wait_for_kit()
+        return process
+
+    def wait_for_kit(self) -> None:
+        """Returns once a kit waits."""
+        end = time.monotonic() + 60
+        while not os.path.exists(self.path("waiting")) and time.monotonic() < end:
+            time.sleep(0.05)
+
+    def unwritable_top(self) -> str:
+        """A repository in which nobody but root may write, with the package, and with a script and its question beside it."""
+        top = self.path("top")
+        for folder in ("python", "tools"):
+            shutil.copytree(os.path.join(TOP, folder), os.path.join(top, folder), ignore=lambda at, names: [name for name in names if name in ("tests", "__pycache__")])
+        for name in ("cqa", "crates.txt", "HANDLES", "CHANGELOG.md"):
+            shutil.copy(os.path.join(TOP, name), os.path.join(top, name))
+        os.makedirs(os.path.join(top, "crates", "cqa_cli", "src"))
+        self.file("top/t.cqa", LISTS + "ask select id, name from t;\n")
+        self.file("compiles", "")
+        for name, mode in (("", 0o755), ("bin", 0o755), ("tmp", 0o777), ("compiles", 0o666)):
+            os.chmod(self.path(name), mode)
+        for folder, _, _ in os.walk(top, topdown=False):
+            os.chmod(folder, 0o555)
+        return top
 
 
 class TryTest(KitCase, ProgramCase):
@@ -152,6 +203,39 @@ class TryTest(KitCase, ProgramCase):
             self.assertEqual(trying.main(["run", self.file("long.cqa", LISTS)]), 6)
         self.assertIn("is longer than 10 bytes", said_here.getvalue())
 
+    def test_an_interrupted_compile_leaves_nothing(self) -> None:
+        environment = dict(self.kit(WAITS), PYTHONPATH=os.path.join(TOP, "python"))
+        for number, wanted in ((signal.SIGINT, 130), (signal.SIGTERM, 143)):
+            process = self.begun(sys.executable, "-m", "cqa", "try", "demo", "1", environment=environment)
+            os.kill(process.pid, number)
+            out, _ = process.communicate(timeout=60)
+            self.assertEqual((process.returncode, out, self.left()), (wanted, b"", []))
+            self.assertFalse(self.is_waiting())
+            os.unlink(self.path("waiting"))
+
+    def test_where_nothing_can_be_written(self) -> None:
+        environment = dict(self.kit(TRIES), REAL=shutil.copy(PROGRAM or "", self.path("bin/real")))
+        top = self.unwritable_top()
+
+        def ran(*words: str) -> Tuple[int, str, str]:
+            found = subprocess.run([os.path.join(top, "cqa"), *words], cwd=top, env=environment, stdin=subprocess.DEVNULL, stdout=subprocess.PIPE,
+                                   stderr=subprocess.PIPE, preexec_fn=_as_another_user, timeout=60, check=False)
+            self.assertEqual(self.left(), [])
+            return found.returncode, found.stdout.decode(), found.stderr.decode().split("\n")[-2]
+        proved = self.command("run", os.path.join(top, "t.cqa"))
+        self.assertEqual(ran("try", "run", "t.cqa")[:2], proved[:2])
+        self.assertEqual(ran("try", "csv", "t.cqa", "-o", "t.csv"), (1, "", "cqa csv: %s: permission denied" % top))
+        status, out, told = ran("build")
+        self.assertEqual((status, out), (126, ""))
+        self.assertRegex(told, "^cqa: not built: .*/crates/cqa_cli/out can't be written: permission denied$")
+
+    def test_without_a_temporary_folder(self) -> None:
+        self.kit(TRIES)
+        full = FileNotFoundError(2, "No usable temporary directory found")
+        with mock.patch("tempfile.mkdtemp", side_effect=full), mock.patch.dict(os.environ, PATH=self.path("bin")), redirect_stderr(io.StringIO()) as told:
+            self.assertEqual(trying.main(["demo", "1"]), 126)
+        self.assertIn("no temporary folder can be made: no usable temporary directory found; TMPDIR names another place", told.getvalue())
+
     def test_without_the_kit(self) -> None:
         environment = dict(os.environ, PATH=self.folder, PYTHONPATH=os.path.join(TOP, "python"))
         ran = subprocess.run([sys.executable, "-m", "cqa", "try", "demo", "1"], env=environment, stdin=subprocess.DEVNULL, stdout=subprocess.PIPE,
@@ -194,14 +278,6 @@ class BuildTest(KitCase):
         self.assertEqual((out, self.left()), (b"", []))
         return build.returncode, told.decode()
 
-    def is_waiting(self) -> bool:
-        """Whether a kit still runs that waits."""
-        if not os.path.exists(self.path("waiting")):
-            return False
-        size = os.path.getsize(self.path("waiting"))
-        time.sleep(1)
-        return os.path.getsize(self.path("waiting")) > size
-
     def is_built(self) -> bool:
         """Whether the program is in its place."""
         return os.path.exists(self.path("top/crates/cqa_cli/out/cqa_cli"))
@@ -241,6 +317,77 @@ class BuildTest(KitCase):
         self.file("top/crates/cqa_cli/out", "")
         status, told = self.ended(self.build())
         self.assertEqual((status, "can't be written" in told), (126, True))
+
+    def test_a_disk_without_room(self) -> None:
+        self.file("full", "")
+        status, told = self.ended(self.build())
+        self.assertEqual((status, self.is_built()), (126, False))
+        self.assertIn("the disk has no room for the build", told.split("\n")[-2])
+        with mock.patch("tempfile.mkdtemp", side_effect=OSError(28, "No space left on device")), self.assertRaisesRegex(building.NotBuilt, "TMPDIR names another place"):
+            with building.room():
+                pass
+
+    def test_try_beside_a_build(self) -> None:
+        shutil.copytree(os.path.join(TOP, "python", "cqa"), self.path("top/python/cqa"))
+        build = self.build(WAITS="1")
+        self.told_until(build, "building:")
+        self.wait_for_kit()
+        os.chmod(self.file("bin/tries", TRIES), 0o755)
+        os.replace(self.path("bin/tries"), self.path("bin/rt"))  # the build's kit goes on with the file that it began
+        real = self.file("real", "#!/bin/sh\necho tried\n")
+        os.chmod(real, 0o755)
+        ran = subprocess.run([self.path("top/cqa"), "try", "demo", "1"], env={**self.environment, "REAL": real}, stdin=subprocess.DEVNULL, stdout=subprocess.PIPE,
+                             stderr=subprocess.PIPE, timeout=60, check=False)
+        self.assertEqual((ran.returncode, ran.stdout), (0, b"tried\n"))
+        self.file("go", "")
+        status, told = self.ended(build)
+        self.assertEqual((status, self.is_built()), (0, True), told)
+
+    def test_without_python(self) -> None:
+        self.file("bin/python3", "#!/bin/sh\nexit 1\n")
+        os.chmod(self.path("bin/python3"), 0o755)
+        for word in ("try", "build", "test"):
+            ran = subprocess.run([self.path("top/cqa"), word], env=self.environment, stdin=subprocess.DEVNULL, stdout=subprocess.PIPE, stderr=subprocess.PIPE, check=False)
+            self.assertEqual((ran.returncode, ran.stdout, ran.stderr.decode()), (127, b"", "cqa: '%s' needs Python 3.9 or later as python3\n" % word))
+
+
+class TestTest(KitCase, ProgramCase):
+    """`./cqa test` over three scripts, where nothing is built, with a kit that compiles nothing."""
+
+    def setUp(self) -> None:
+        super().setUp()
+        os.makedirs(self.path("data"))
+        for name, script, wanted in (("right.cqa", "ask", "error syntax at byte 3\n"), ("wrong.cqa", LISTS, "created t\nloaded 4\n"), ("proof.lrat", "p cnf", "")):
+            self.file("data/" + name, script)
+            proved = subprocess.run([PROGRAM or "", "check" if name == "proof.lrat" else "run"], input=script.encode(), stdout=subprocess.PIPE, check=False).stdout
+            self.file("data/%s.out" % name.split(".")[0], wanted if name == "wrong.cqa" else proved)
+
+    def outcome(self, tests: "Callable[[bool], bool]" = lambda is_built: True, **more: str) -> Tuple[int, str, str]:
+        """How a test ended, with its lines."""
+        environment = {**self.kit(TRIES), "REAL": PROGRAM or "", **more}
+        with mock.patch.multiple(testing, DATA=self.path("data"), is_fresh=lambda: False, is_python_well=tests), mock.patch.dict(os.environ, environment), \
+                mock.patch.multiple("blocks", scripts=lambda: [], statements=lambda: [], stored_tour=lambda: 0), mock.patch("tempfile.tempdir", self.path("tmp")), \
+                redirect_stdout(io.StringIO()) as out, redirect_stderr(io.StringIO()) as told:
+            status = testing.main()
+        self.assertEqual(self.left(), [])
+        return status, out.getvalue(), told.getvalue()
+
+    def test_a_line_tells_what_differs(self) -> None:
+        status, out, told = self.outcome()
+        self.assertEqual(status, 1)
+        self.assertRegex(out, r"^script_tests/data/wrong\.cqa: line \d is '.*', and '.*' is wanted\n3 scripts, blocks and examples, of which 1 differ\n$")
+        self.assertRegex(told, r"(?s)compiled without its proofs.*1 differ, in \d+ s\. This is a look and not the gate")
+        os.unlink(self.path("data/wrong.cqa"))
+        os.unlink(self.path("data/wrong.out"))
+        self.assertEqual(self.outcome()[0], 0)
+        status, _, told = self.outcome(lambda is_built: False)
+        self.assertEqual((status, "0 differ, and Python's tests fail" in told), (1, True))
+
+    def test_what_keeps_it_from_being_tested(self) -> None:
+        status, out, told = self.outcome(ENDS="src/lib.rt:1:1: error[syntax]: what")
+        self.assertEqual((status, out, "error[syntax]" in told), (126, "", True))
+        status, out, told = self.outcome(PATH=self.path("none"))
+        self.assertEqual((status, out, "rt isn't on the path" in told), (127, "", True))
 
 
 class ProgressTest(unittest.TestCase):

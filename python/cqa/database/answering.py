@@ -144,7 +144,7 @@ class ByTables(Evaluation):
                 self._make(dict([repeated]))
             rows += self._make(dict(others))
         self._has_lists = rows > 0 and self._make(plan.list_steps()) > 0
-        text = plan.sure(self._has_lists, self.engine.looks_up)
+        text = plan.sure(self._has_lists)
         self.statements.append(text)
         for row in self.engine.rows(text, {}):
             if row[0]:

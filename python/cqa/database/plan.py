@@ -130,8 +130,7 @@ class Plan:
         names = ", ".join(self.columns)
         return {
             "cqa_l": Step([*self.columns, *ids], " UNION ALL ".join(texts)),
-            "cqa_n": Step(["cqa_n", *self.columns, *ids], "SELECT DISTINCT dense_rank() OVER (ORDER BY %s), %s FROM cqa_l" % (names, ", ".join([names, *ids])),
-                          self.columns if self.engine.looks_up else ()),
+            "cqa_n": Step(["cqa_n", *self.columns, *ids], "SELECT DISTINCT dense_rank() OVER (ORDER BY %s), %s FROM cqa_l" % (names, ", ".join([names, *ids]))),
         }
 
     def _lists_of(self, join: _Joined) -> str:
@@ -178,17 +177,13 @@ class Plan:
         """`clean` as a step."""
         return {"cqa_c": Step(self.columns, self.clean())}
 
-    def sure(self, has_lists: bool, is_looked_up: bool = False, is_clean_made: bool = False) -> str:
+    def sure(self, has_lists: bool, is_clean_made: bool = False) -> str:
         """The candidates with a witness that no conflict touches, each once, with their number among those that have lists too, or 0.
-        is_looked_up: the number is looked up for each, by the index of `cqa_n`, and not found by grouping both together. is_clean_made:
-        whether `cqa_c` is a step before."""
+        is_clean_made: whether `cqa_c` is a step before."""
         names = ", ".join(self.columns)
         clean = "" if is_clean_made else "WITH cqa_c(%s) AS (%s) " % (names, self.clean())
         if not has_lists:
             return "%sSELECT DISTINCT 0 AS cqa_m, %s FROM cqa_c" % (clean, names)
-        if is_looked_up:
-            same = " AND ".join("n.%s IS c.%s" % (column, column) for column in self.columns)
-            return "%sSELECT DISTINCT coalesce((SELECT n.cqa_n FROM cqa_n n WHERE %s LIMIT 1), 0) AS cqa_m, %s FROM cqa_c c" % (clean, same, names)
         both = "SELECT 0 AS cqa_m, %s FROM cqa_c UNION ALL SELECT cqa_n, %s FROM cqa_n" % (names, names)
         return "%sSELECT max(cqa_m) AS cqa_m, %s FROM (%s) x GROUP BY %s HAVING min(cqa_m) = 0" % (clean, names, both, names)
 

@@ -37,7 +37,6 @@ class SQLite(Engine):
     using_converts = False
     checks_types = False
     is_untyped = True
-    looks_up = True
     few = 3
 
     def __init__(self, connection: sqlite3.Connection, is_own: bool) -> None:
