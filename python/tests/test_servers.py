@@ -14,7 +14,6 @@ import unittest
 from typing import Any, List, Set, Tuple
 
 from support import HERE, TOP, Case
-from test_database import HAS_JUDGE
 
 from cqa.database import Database
 from cqa.errors import DatabaseFault, QueryRefused

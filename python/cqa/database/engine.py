@@ -21,8 +21,8 @@ class Engine(ABC):
     of a table. reads_aliases: whether a condition may name what SELECT gives a name. has_quoted_texts: whether a name in quotes is a text
     where no column has it. using_converts: whether USING may change the type of its column. checks_types: whether
     the columns of the parts of a union have to be known. reads_capitals: whether names of tables that differ in capitals may be two. few: repeated keys are
-    looked for among those that the joins met, where these are at most one in so many of a table's rows. most_elements: of one FROM.
-    is_untyped: whether a text beside a number stays one.
+    looked for among those that the joins met, where these are at most one in so many of a table's rows. most_elements: of one FROM. is_untyped: whether a text
+    beside a number stays one.
     """
 
     name: str
