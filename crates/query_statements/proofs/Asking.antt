@@ -8,7 +8,7 @@ use Rattle.part_search.specs.declared.searched.Searched.{Searched}
 use Rattle.part_search.specs.declared.searched.Searched.TheVariants.{All, Stopped}
 use Rattle.part_search.specs.declared.searched.Stop.{Stop}
 use Rattle.part_search.specs.declared.searched.Stop.TheVariants as stops
-use Rattle.search_answers.specs.Searching.{IsSearched, IsSpentFor, IsStop}
+use Rattle.union_ask.specs.QuerySearching.{IsSearched, IsSpentFor, IsStop}
 use Rattle.query_strategy.specs.Strategies.{NeedsSearch}
 use Rattle.refusals.specs.declared.refusal.Refusal.{Refusal}
 use Rattle.spj_syntax.specs.declared.tree.Select.{Select}

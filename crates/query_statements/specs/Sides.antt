@@ -11,7 +11,7 @@ use Rattle.row_answers.specs.declared.side.Side.{Side}
 use Rattle.row_answers.specs.Sides.{IsAnswerOf}
 use Rattle.part_search.specs.declared.searched.Searched.{Searched}
 use Rattle.part_search.specs.declared.searched.Searched.TheVariants.{All, Stopped}
-use Rattle.search_answers.specs.Searching.{NoneBefore, IsSpentFor, IsStop}
+use Rattle.union_ask.specs.QuerySearching.{NoneBefore, IsSpentFor, IsStop}
 use Rattle.query_strategy.specs.Strategies.{NeedsSearch}
 use Rattle.spj_syntax.specs.declared.tree.Select.{Select}
 use Rattle.query_resolve.specs.Resolved.{IsQueryOf}

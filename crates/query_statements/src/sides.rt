@@ -22,12 +22,11 @@ use query_strategy::Strategy;
 use refusals::Refusal;
 use reply_text::Reply;
 use row_answers::{Side, without};
-use search_answers::rows_by_search;
 use session_state::SessionState;
 use spj_syntax::Select;
 use std::alloc::Global;
 use table_blocks::Bound;
-use union_ask::strategy_over;
+use union_ask::{rows_by_search, strategy_over};
 
 /// The possible rows of a query without the certain ones, which these are.
 fn disputed_beside(

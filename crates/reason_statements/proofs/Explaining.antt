@@ -23,7 +23,7 @@ use Rattle.query_replies.specs.Names.{table_name_at}
 use Rattle.query_replies.specs.Kept.{kept_line}
 use Rattle.session_state.specs.Untold.{RefusesRow}
 use Rattle.reason_statements.specs.Explain.{StopsFor, MayTell, Explains}
-use Rattle.search_answers.specs.Searching.{IsSpentFor}
+use Rattle.union_ask.specs.QuerySearching.{IsSpentFor}
 use Rattle.session_state.proofs.Spending.{spends}
 use Rattle.reason_statements.proofs.Spending.{spent_for}
 

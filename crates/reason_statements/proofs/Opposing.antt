@@ -17,7 +17,7 @@ use Rattle.repair_back.specs.declared.reason.Untold.{Untold}
 use Rattle.repair_back.specs.declared.reason.Untold.TheVariants as untold
 use Rattle.query_strategy.specs.Strategies.{HasNoPlan}
 use Rattle.repair_back.specs.Rejected.{AreRejectingRows}
-use Rattle.search_answers.specs.Reasons.{IsSearchReason}
+use Rattle.union_ask.specs.QueryReasons.{IsSearchReason}
 use Rattle.spj_syntax.specs.declared.tree.Select.{Select}
 use Rattle.reply_text.specs.declared.reply.Proof.{Proof}
 use Rattle.reply_text.specs.declared.reply.Reply.{Reply}
@@ -28,7 +28,7 @@ use Rattle.session_state.specs.Replying.{Replies, IsReplyOutcome}
 use Rattle.query_replies.specs.Kept.{kept_line}
 use Rattle.session_state.specs.Untold.{RefusesRow}
 use Rattle.reason_statements.specs.Against.{rejecting_of, IsDecision, IsAgainstPair, IsToldOf, IsUndecided, StopsAgainst, TellsAgainst, AnswersAgainst}
-use Rattle.search_answers.specs.Searching.{IsSpentFor}
+use Rattle.union_ask.specs.QuerySearching.{IsSpentFor}
 use Rattle.session_state.proofs.Spending.{spends}
 use Rattle.reason_statements.proofs.Spending.{spent_for}
 

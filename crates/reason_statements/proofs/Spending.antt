@@ -7,8 +7,8 @@ use Rattle.cqa_model.specs.Database.{Table}
 use Rattle.cnf_form.specs.declared.formula.Cnf.{Cnf}
 use Rattle.cnf_form.specs.declared.log.Log.{Log}
 use Rattle.cdcl.specs.declared.outcome.Outcome.TheVariants.{Spent}
-use Rattle.search_answers.specs.Deciding.{IsDecided}
-use Rattle.search_answers.specs.Searching.{IsSpentFor}
+use Rattle.union_ask.specs.QueryDeciding.{IsDecided}
+use Rattle.union_ask.specs.QuerySearching.{IsSpentFor}
 
 -- a row is a candidate where the solver used up its budget for the row's formula
 pub spent_for : (q : Query) (db : List Table) (budget : ℕ) (row : List Value) (cnf : Cnf) (rows : List RowId) (log : Log) → IsDecided q db row budget (record { formula = record { cnf = cnf; rows = rows }; outcome = Spent log }) →

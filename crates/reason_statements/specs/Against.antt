@@ -26,7 +26,7 @@ use Rattle.reply_text.specs.declared.reply.Reply.TheVariants as replies
 use Rattle.session_state.specs.State.{State}
 use Rattle.reason_statements.specs.Reasons.{IsUntold}
 use Rattle.session_state.specs.Replying.{Replies}
-use Rattle.search_answers.specs.Searching.{IsSpentFor}
+use Rattle.union_ask.specs.QuerySearching.{IsSpentFor}
 use Rattle.session_state.specs.Spent.{Spends}
 use Rattle.query_replies.specs.Kept.{kept_line}
 

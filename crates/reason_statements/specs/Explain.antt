@@ -16,7 +16,7 @@ use Rattle.reply_text.specs.declared.reply.Reply.TheVariants.{ByBlock, ByRefutat
 use Rattle.session_state.specs.State.{State}
 use Rattle.reason_statements.specs.Reasons.{IsReason, IsOverLimit}
 use Rattle.session_state.specs.Replying.{Replies}
-use Rattle.search_answers.specs.Searching.{IsSpentFor}
+use Rattle.union_ask.specs.QuerySearching.{IsSpentFor}
 use Rattle.session_state.specs.Spent.{Spends}
 use Rattle.query_replies.specs.Names.{table_name_at}
 use Rattle.query_replies.specs.Kept.{kept_line}

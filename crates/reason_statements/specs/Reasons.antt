@@ -21,7 +21,7 @@ use Rattle.query_strategy.specs.Strategies.{HasNoPlan, NeedsSearch}
 use Rattle.table_blocks.specs.Tables.{AreStored}
 use Rattle.repair_back.specs.Rejected.{AreRejectingRows}
 use Rattle.repair_clauses.specs.Encodings.{IsEncoded}
-use Rattle.search_answers.specs.Deciding.{IsDecided}
+use Rattle.union_ask.specs.QueryDeciding.{IsDecided}
 use Rattle.cqa_model.specs.Graph.{IsPair}
 
 -- a formula is the row's, and a log refutes it (Dixit and Kolaitis, SAT 2019)

@@ -25,11 +25,11 @@ use refusals::Refusal;
 use repair_back::{Reason, Repair, Untold, chosen};
 use reply_text::Reply;
 use rows_against::minimal_rows;
-use search_answers::reason_by_search;
 use session_state::{SessionState, refuse_row};
 use spj_syntax::Select;
 use std::alloc::Global;
 use table_blocks::{Bound, Database};
+use union_ask::reason_by_search;
 
 /// The rows that a repair without a witness had to choose; `None` where a reason says that the row is certain.
 fn rejecting(reason: Reason) -> Option<Items<RowId>>

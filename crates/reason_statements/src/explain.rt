@@ -23,11 +23,11 @@ use query_strategy::{Strategy, strategy_of};
 use refusals::Refusal;
 use repair_back::{Reason, Untold};
 use reply_text::{Proof, Reply};
-use search_answers::reason_by_search;
 use session_state::{SessionState, refuse_row};
 use spj_syntax::Select;
 use std::alloc::Global;
 use table_blocks::{Bound, Database};
+use union_ask::reason_by_search;
 
 /// The reason of a row of a pair.
 fn of_pair(alloc: Global, pair: &PairQuery<'_>, row: &Row) -> Result<Reason, Fail<Untold>>

@@ -82,7 +82,7 @@ pub fn tables_from_model(
 
 /// The repair that a model gives: of each block of the query's tables the first row that is listed with `true`, or else
 /// the first row. Where the list is that of a formula's variables and the model satisfies it, the repair holds no
-/// witness of the formula's row: a law, `search_answers::model_rejects` (Dixit and Kolaitis, SAT 2019).
+/// witness of the formula's row: a law, `union_ask::model_rejects` (Dixit and Kolaitis, SAT 2019).
 ///
 /// # Errors
 ///

@@ -9,3 +9,6 @@ mod Searching
 mod Sets
 mod Loose
 mod Knowing
+mod QueryDeciding
+mod Modelled
+mod OnePart

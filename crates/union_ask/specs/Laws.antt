@@ -14,6 +14,9 @@ use Rattle.query_strategy.specs.Apart.{AreApart}
 use Rattle.union_ask.specs.Apart.{AreApartFor}
 use Rattle.union_ask.specs.Encodings.{IsEncodedIn}
 use Rattle.union_ask.specs.Repairs.{IsUnionRepair, AreUnionPicks, RejectsIn}
+use Rattle.cqa_model.specs.Query.{FitsDatabase}
+use Rattle.repair_back.specs.Results.{ArePicks, IsRepairOf, Rejects}
+use Rattle.repair_clauses.specs.Encodings.{IsEncoded}
 
 -- A row that is a candidate of one part alone is certain for the union exactly where it is certain for this part.
 abbrev pub AloneDecides : Type 0
@@ -45,3 +48,8 @@ abbrev pub UnionModelRejects : Type 0
 UnionModelRejects =
     (db : List Table) (parts : List Query) (row : List Value) (e : Encoded) (model : List Bool) (names : List RowId) → IsDatabase db → AllFit parts db → IsEncodedIn db parts row e → IsModel e.cnf model →
     IsUnionRepair db parts names → AreUnionPicks db parts e.rows model names → RejectsIn db parts row names
+
+-- A repair whose rows are the picks of a model of a row's formula holds no witness of the row.
+abbrev pub ModelRejects : Type 0
+ModelRejects = (db : List Table) (q : Query) (row : List Value) (e : Encoded) (model : List Bool) (names : List RowId) →
+    FitsDatabase q db → IsEncoded q db row e → IsModel e.cnf model → IsRepairOf q db names → ArePicks q db e.rows model names → Rejects q db row names

@@ -7,3 +7,6 @@ pub mod Reasons
 pub mod Apart
 pub mod Laws
 pub mod Knowing
+pub mod QuerySearching
+pub mod QueryDeciding
+pub mod QueryReasons

@@ -1,6 +1,6 @@
 //! The laws of unions, over the definitions alone. Each is what its function ensures.
 
-ghost use Rattle.union_ask.specs.Laws.{AloneDecides, ApartDecide, CandidatesDecide, PossibleIsCandidateIn, UnionModelRejects, UnionsDecide};
+ghost use Rattle.union_ask.specs.Laws.{AloneDecides, ApartDecide, CandidatesDecide, ModelRejects, PossibleIsCandidateIn, UnionModelRejects, UnionsDecide};
 
 /// A row that is a candidate of one part alone is certain for the union exactly where it is certain for this part.
 pub fn alone_decides()
@@ -31,4 +31,10 @@ pub fn unions_decide()
 /// A repair of the union's tables whose rows are the picks of a model of a row's formula holds no witness of the row.
 pub fn union_model_rejects()
     ensures { UnionModelRejects }
+{}
+
+/// Over a model of a row's formula for one query, the repair that keeps of each block the first row that is true, or else its first
+/// row, holds no witness of the row.
+pub fn model_rejects()
+    ensures { ModelRejects }
 {}

@@ -2,7 +2,7 @@ use Rattle.std.proofs.Common.{subst}
 use Rattle.std.proofs.lemmas.Result.{IfOk-weaker}
 use Rattle.table_blocks.specs.declared.bound.Bound.{Bound}
 use Rattle.row_answers.specs.Sides.{IsAnswerOf}
-use Rattle.search_answers.specs.Searching.{IsSearched}
+use Rattle.union_ask.specs.QuerySearching.{IsSearched}
 use Rattle.query_strategy.specs.Strategies.{IsStrategyOf}
 use Rattle.query_statements.specs.Sides.{FindsRows}
 use Rattle.query_statements.proofs.Asking.{found_by_search}

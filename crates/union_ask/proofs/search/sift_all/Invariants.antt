@@ -8,7 +8,7 @@ use Rattle.union_ask.proofs.search.sift_all.Given as goal
 -- the rows so far are decided
 abbrev pub invariant-loop-row : goal.invariant-loop-row
 invariant-loop-row l = record {
-  decided : AreDecided l.parts.db.now l.parts.queries.now (into_iter_items l.initial.row-iterator) l.answers.items (into_iter_items l.row-iterator);
+  decided : AreDecided l.parts.db.now l.parts.queries.now l.side (into_iter_items l.initial.row-iterator) l.answers.items (into_iter_items l.row-iterator);
   lookups : AreLookupsOf l.parts.db.now l.parts.queries.now l.lookups;
   search : IsSearchOf l.parts.db.now l.parts.queries.now l.search;
   budget : l.search.budget ≡ l.fn.search.budget;

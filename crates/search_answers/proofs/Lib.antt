@@ -1,4 +1,0 @@
-mod Searching
-pub mod Deciding
-pub mod Modelled
-mod OnePart
