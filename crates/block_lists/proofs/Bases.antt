@@ -6,10 +6,10 @@ use Rattle.std.proofs.lemmas.List.Sums.{sum_by-cons, sum_by_more, sum_by_more_le
 use Rattle.cqa_value.proofs.Words.{Contains-from_map, Contains-map, mem-head, mem-tail}
 use Rattle.cnf_form.specs.declared.formula.Lit.{Lit}
 use Rattle.cnf_form.specs.Literals.{positive}
-use Rattle.block_lists.specs.declared.row.BlockRow.{BlockRow}
+use Rattle.block_choices.specs.declared.row.BlockRow.{BlockRow}
 use Rattle.block_lists.specs.Formulas.{AreNumbersIn, blocks_from, number}
 use Rattle.block_lists.specs.Numbers.{AreNumbersOver, IsBasedOver, bases_from, number_over}
-use Rattle.block_lists.specs.Choices.{AreThere, IsThere}
+use Rattle.block_choices.specs.Choices.{AreThere, IsThere}
 
 -- ---- one block more
 

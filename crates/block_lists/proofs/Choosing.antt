@@ -4,8 +4,9 @@ use Rattle.std.proofs.lemmas.List.{take_more}
 use Rattle.std.proofs.lemmas.Option.{slice_get_within, get_or_from_slice_get}
 use Rattle.std.proofs.lemmas.List.Elements.{Contains-push_cases}
 use Rattle.cqa_value.proofs.Words.{cases_next}
-use Rattle.block_lists.specs.declared.row.BlockRow.{BlockRow}
-use Rattle.block_lists.specs.Choices.{IsBegun, IsChoice, HoldsWhole, HoldsSome}
+use Rattle.block_choices.specs.declared.row.BlockRow.{BlockRow}
+use Rattle.block_choices.specs.Choices.{IsChoice, HoldsWhole, HoldsSome}
+use Rattle.block_lists.specs.Walks.{IsBegun}
 use Rattle.block_lists.specs.Walks.{IsBefore, Begins}
 
 -- ---- choices in order

@@ -7,8 +7,8 @@ use Rattle.std.proofs.lemmas.List.Elements.{Contains-append_left, Contains-appen
 use Rattle.cqa_value.proofs.Words.{clash, is_yes, yes_of, no_of, mem-head, mem-tail, mem-nil, mem-cases, Contains-map, Contains-from_map, Contains-range, in_range}
 use Rattle.cnf_form.specs.declared.formula.Lit.{Lit}
 use Rattle.cnf_form.specs.Literals.{positive, negative, MakesTrue, Satisfies, SatisfiesAll}
-use Rattle.block_lists.specs.declared.row.BlockRow.{BlockRow}
-use Rattle.block_lists.specs.Choices.{IsChoice, Chooses, HoldsWhole, HoldsSome, IsForcedBy, AreThere}
+use Rattle.block_choices.specs.declared.row.BlockRow.{BlockRow}
+use Rattle.block_choices.specs.Choices.{IsChoice, Chooses, HoldsWhole, HoldsSome, IsForcedBy, AreThere}
 use Rattle.block_lists.specs.Formulas.{number, blocks_from, AreNumbersIn, group_clauses}
 use Rattle.block_lists.specs.Picks.{first_true, first_trues}
 use Rattle.block_lists.specs.Laws.{GroupDecides, PicksAvoid}

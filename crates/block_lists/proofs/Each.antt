@@ -1,6 +1,6 @@
 -- A group is forced, or some choice avoids it.
 use Rattle.std.proofs.Common.{◌≡◌, ℕ, zero, suc, ◌<◌, ◌⊎◌, inl, inr, List, [], ◌∷◌, slice_get, subst, arith}
-use Rattle.block_lists.specs.Choices.{IsChoice, Chooses, HoldsWhole, HoldsSome, IsForcedBy, IsAvoidedBy}
+use Rattle.block_choices.specs.Choices.{IsChoice, Chooses, HoldsWhole, HoldsSome, IsForcedBy, IsAvoidedBy}
 use Rattle.block_lists.specs.Laws.{EachGroupDecides}
 use Rattle.block_lists.proofs.Decisions.{Option-dec, dec_each, dec_some}
 

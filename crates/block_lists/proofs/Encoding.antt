@@ -17,11 +17,12 @@ use Rattle.cnf_form.proofs.Sound.{refutation_sound}
 use Rattle.cdcl.specs.declared.outcome.Outcome.{Outcome}
 use Rattle.cdcl.specs.declared.outcome.Outcome.TheVariants.{Sat, Unsat, Spent}
 use Rattle.cdcl.specs.Outcomes.{IsModel, IsOnce, OutcomeIs}
-use Rattle.block_lists.specs.declared.row.BlockRow.{BlockRow}
+use Rattle.block_choices.specs.declared.row.BlockRow.{BlockRow}
 use Rattle.block_lists.specs.declared.proving.Proved.{Proved}
 use Rattle.block_lists.specs.declared.judging.Judged.{Judged}
 use Rattle.block_lists.specs.declared.proving.Proved.TheVariants as proved
-use Rattle.block_lists.specs.Choices.{AreThere, IsAvoidedBy, IsGroup}
+use Rattle.block_choices.specs.Choices.{AreThere, IsAvoidedBy}
+use Rattle.block_lists.specs.Groups.{IsGroup}
 use Rattle.block_lists.specs.Formulas.{AreNumbersIn, IsGroupFormula, blocks_from, number}
 use Rattle.block_lists.specs.Numbers.{AddsLists, AreNumbersOver, IsListClause}
 use Rattle.block_lists.specs.Judging.{HasEachValue, IsJudged, IsProved, Shows, Tells}

@@ -3,9 +3,10 @@ use Rattle.std.proofs.Common.{ℕ, ◌<◌, ◌≤◌, inl, inr, List, [], ◌�
 use Rattle.std.specs.List.{sum}
 use Rattle.std.proofs.lemmas.List.Elements.{Contains-push_cases}
 use Rattle.cqa_value.proofs.Words.{mem-nil}
-use Rattle.block_lists.specs.declared.row.BlockRow.{BlockRow}
-use Rattle.block_lists.specs.declared.row.TheConstants.{MOST_GROUP_LISTS, MOST_GROUP_ROWS}
-use Rattle.block_lists.specs.Choices.{IsGroup, IsThere}
+use Rattle.block_choices.specs.declared.row.BlockRow.{BlockRow}
+use Rattle.block_lists.specs.declared.limits.TheConstants.{MOST_GROUP_LISTS, MOST_GROUP_ROWS}
+use Rattle.block_choices.specs.Choices.{IsThere}
+use Rattle.block_lists.specs.Groups.{IsGroup}
 
 -- blocks without lists
 pub group-begun : (sizes : List ℕ) → ((s : ℕ) → Contains sizes s → 0 < s) → sum sizes ≤ MOST_GROUP_ROWS → IsGroup sizes []

@@ -2,8 +2,8 @@
 use Rattle.std.proofs.Common.{◌≡◌, inl, inr, List, ◌∷◌, ◌++◌, subst}
 use Rattle.std.proofs.lemmas.List.Elements.{Contains-append_left, Contains-append_right, Contains-append_cases}
 use Rattle.cqa_value.proofs.Words.{mem-cases, mem-tail}
-use Rattle.block_lists.specs.declared.row.BlockRow.{BlockRow}
-use Rattle.block_lists.specs.Choices.{HoldsSome, HoldsWhole}
+use Rattle.block_choices.specs.declared.row.BlockRow.{BlockRow}
+use Rattle.block_choices.specs.Choices.{HoldsSome, HoldsWhole}
 use Rattle.block_lists.specs.Laws.{WiderMayBeLeftOut}
 
 pub wider_may_be_left_out : WiderMayBeLeftOut

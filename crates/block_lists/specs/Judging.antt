@@ -7,12 +7,12 @@ use Rattle.cnf_form.specs.Logs.{Refutes, AreConsecutive}
 use Rattle.cnf_form.specs.Spent.{IsSpentLog}
 use Rattle.cdcl.specs.declared.outcome.Outcome.{Outcome}
 use Rattle.cdcl.specs.declared.outcome.Outcome.TheVariants as outcome
-use Rattle.block_lists.specs.declared.row.BlockRow.{BlockRow}
+use Rattle.block_choices.specs.declared.row.BlockRow.{BlockRow}
 use Rattle.block_lists.specs.declared.judging.Judged.{Judged}
 use Rattle.block_lists.specs.declared.judging.Judged.TheVariants as judged
 use Rattle.block_lists.specs.declared.proving.Proved.{Proved}
 use Rattle.block_lists.specs.declared.proving.Proved.TheVariants as proved
-use Rattle.block_lists.specs.Choices.{IsAvoidedBy, IsForcedBy}
+use Rattle.block_choices.specs.Choices.{IsAvoidedBy, IsForcedBy}
 use Rattle.block_lists.specs.Formulas.{IsGroupFormula}
 use Rattle.block_lists.specs.Picks.{first_trues}
 

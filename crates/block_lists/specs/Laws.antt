@@ -4,8 +4,9 @@ use Rattle.cnf_form.specs.declared.formula.Cnf.{Cnf}
 use Rattle.cnf_form.specs.Literals.{literals, SatisfiesAll}
 use Rattle.cnf_form.specs.Writing.{IsWritable}
 use Rattle.cdcl.specs.Outcomes.{IsModel}
-use Rattle.block_lists.specs.declared.row.BlockRow.{BlockRow}
-use Rattle.block_lists.specs.Choices.{AreThere, HoldsSome, IsAvoidedBy, IsForcedBy, IsGroup}
+use Rattle.block_choices.specs.declared.row.BlockRow.{BlockRow}
+use Rattle.block_choices.specs.Choices.{AreThere, HoldsSome, IsAvoidedBy, IsForcedBy}
+use Rattle.block_lists.specs.Groups.{IsGroup}
 use Rattle.block_lists.specs.Formulas.{IsGroupFormula}
 use Rattle.block_lists.specs.Picks.{first_trues}
 

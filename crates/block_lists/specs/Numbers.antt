@@ -5,8 +5,8 @@ use Rattle.std.specs.List.{AllZip}
 use Rattle.std.specs.List.Sorted.{IsStrictlySortedBy}
 use Rattle.cnf_form.specs.declared.formula.Lit.{Lit}
 use Rattle.cnf_form.specs.Literals.{negative}
-use Rattle.block_lists.specs.declared.row.BlockRow.{BlockRow}
-use Rattle.block_lists.specs.declared.row.TheConstants.{MOST_GROUP_ROWS}
+use Rattle.block_choices.specs.declared.row.BlockRow.{BlockRow}
+use Rattle.block_lists.specs.declared.limits.TheConstants.{MOST_GROUP_ROWS}
 
 -- how many rows stand before each block, where n stand before the first
 abbrev pub bases_from : ℕ → List ℕ → List ℕ

@@ -3,13 +3,12 @@
 ghost use Rattle.std.specs.Prelude.{◌≡◌, ◌+◌, ◌++◌, ◌≤◌, [], IfOk, map, suc};
 ghost use Rattle.std.specs.List.{range_with_len, sum};
 ghost use Rattle.cnf_form.specs.Literals.{literals, negative, positive};
-ghost use Rattle.block_lists.specs.declared.row.TheConstants.{MOST_GROUP_ROWS};
+ghost use Rattle.block_lists.specs.declared.limits.TheConstants.{MOST_GROUP_ROWS};
 ghost use Rattle.block_lists.specs.Formulas.{blocks_from};
 ghost use Rattle.block_lists.specs.Numbers.{AddsLists, AreAllBasedOver, AreBasedOver, IsListClause};
 
 use crate::numbers::{fill_numbers, order};
-use crate::pool::Lists;
-use crate::row::BlockRow;
+use block_choices::{BlockRow, Lists};
 use cnf_form::{Clause, Lit};
 use cqa_value::{Items, NoMemory};
 use std::alloc::Global;

@@ -1,12 +1,12 @@
 //! The formula of a group: each row of each block is a variable, one clause for each block, and one for each list.
 
 ghost use Rattle.std.specs.Prelude.{IfOk};
-ghost use Rattle.block_lists.specs.Choices.{IsGroup};
+ghost use Rattle.block_lists.specs.Groups.{IsGroup};
 ghost use Rattle.block_lists.specs.Formulas.{IsGroupFormula};
 
 use crate::clauses::{add_blocks, add_lists};
 use crate::numbers::{fill_bases, total};
-use crate::pool::Lists;
+use block_choices::Lists;
 use cnf_form::Cnf;
 use cqa_value::{Items, NoMemory};
 use std::alloc::Global;

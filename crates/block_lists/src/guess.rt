@@ -2,15 +2,15 @@
 
 ghost use Rattle.std.specs.Prelude.{◌≡◌, ◌≤◌, ◌<◌, ℕ, [], Contains, IfOk, IsTrue, length};
 ghost use Rattle.std.specs.List.{sum};
-ghost use Rattle.block_lists.specs.declared.row.TheConstants.{MOST_GROUP_ROWS};
-ghost use Rattle.block_lists.specs.Choices.{IsAvoidedBy, IsChoice, IsGroup};
+ghost use Rattle.block_lists.specs.declared.limits.TheConstants.{MOST_GROUP_ROWS};
+ghost use Rattle.block_choices.specs.Choices.{IsAvoidedBy, IsChoice};
+ghost use Rattle.block_lists.specs.Groups.{IsGroup};
 ghost use Rattle.block_lists.specs.Numbers.{AreAllBasedOver, AreBasedOver};
 
 use crate::numbers::{fill_bases, total};
 use crate::picks::first_true;
-use crate::pool::Lists;
-use crate::row::BlockRow;
 use crate::walking::holds_some;
+use block_choices::{BlockRow, Lists};
 use cqa_value::NoMemory;
 use std::alloc::Global;
 

@@ -1,13 +1,13 @@
 //! Whether each choice of a row of each block holds a list whole.
 
 ghost use Rattle.std.specs.Prelude.{IfOk};
-ghost use Rattle.block_lists.specs.Choices.{IsGroup};
+ghost use Rattle.block_lists.specs.Groups.{IsGroup};
 ghost use Rattle.block_lists.specs.Judging.{IsJudged, Tells};
 
-use crate::pool::Lists;
 use crate::proving::{Proved, prove_unclear};
 use crate::room::Room;
 use crate::walking::{Walked, walk};
+use block_choices::Lists;
 use cqa_value::NoMemory;
 use std::alloc::Global;
 

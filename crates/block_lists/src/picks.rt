@@ -2,7 +2,7 @@
 
 ghost use Rattle.std.specs.Prelude.{◌≡◌, ◌≤◌, IfOk, length};
 ghost use Rattle.std.specs.List.{sum};
-ghost use Rattle.block_lists.specs.declared.row.TheConstants.{MOST_GROUP_ROWS};
+ghost use Rattle.block_lists.specs.declared.limits.TheConstants.{MOST_GROUP_ROWS};
 ghost use Rattle.block_lists.specs.Picks.{first_true, first_trues};
 
 use cqa_value::NoMemory;

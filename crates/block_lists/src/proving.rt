@@ -2,16 +2,16 @@
 
 ghost use Rattle.std.specs.Prelude.{◌≤◌, IfOk};
 ghost use Rattle.std.specs.List.{sum};
-ghost use Rattle.block_lists.specs.declared.row.TheConstants.{MOST_GROUP_ROWS};
-ghost use Rattle.block_lists.specs.Choices.{IsGroup};
+ghost use Rattle.block_lists.specs.declared.limits.TheConstants.{MOST_GROUP_ROWS};
+ghost use Rattle.block_lists.specs.Groups.{IsGroup};
 ghost use Rattle.block_lists.specs.Judging.{HasEachValue, IsProved, Shows};
 
 use crate::formula::formula_of;
 use crate::guess::free_avoids;
 use crate::picks::fill_choice;
-use crate::pool::Lists;
 use crate::room::Room;
 use crate::walking::{Walked, walk};
+use block_choices::Lists;
 use cdcl::Outcome;
 use cnf_form::{Cnf, Log};
 use cqa_value::NoMemory;

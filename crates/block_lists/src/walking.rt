@@ -1,11 +1,11 @@
 //! A walk over the choices of a row of each block, which passes over those that begin as one that holds a list.
 
 ghost use Rattle.std.specs.Prelude.{◌≡◌, ◌↔◌, ◌⊎◌, ◌<◌, ℕ, List, IsTrue, IfOk, Contains, false};
-ghost use Rattle.block_lists.specs.Choices.{Chooses, HoldsWhole, HoldsSome, IsBegun, IsChoice};
+ghost use Rattle.block_choices.specs.Choices.{Chooses, HoldsWhole, HoldsSome, IsChoice};
+ghost use Rattle.block_lists.specs.Walks.{IsBegun};
 ghost use Rattle.block_lists.specs.Walks.{IsBefore, Begins, WalkIs};
 
-use crate::pool::Lists;
-use crate::row::BlockRow;
+use block_choices::{BlockRow, Lists};
 use cqa_value::NoMemory;
 
 /// What a walk finds out.

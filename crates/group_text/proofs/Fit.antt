@@ -3,7 +3,7 @@ use Rattle.std.proofs.Common.{◌≡◌, ℕ, ◌<◌, ◌+◌, List, [], ◌∷
 use Rattle.std.specs.List.{sum_by}
 use Rattle.std.proofs.lemmas.List.Sums.{sum_by_push}
 use Rattle.cqa_value.proofs.Words.{mem-nil}
-use Rattle.block_lists.specs.declared.row.BlockRow.{BlockRow}
+use Rattle.block_choices.specs.declared.row.BlockRow.{BlockRow}
 use Rattle.block_lists.proofs.Groups.{group-begun, group-more}
 use Rattle.group_text.specs.Fitting.{IsFit}
 use Rattle.group_text.specs.Names.{AreNamed}

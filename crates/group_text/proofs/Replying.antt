@@ -4,7 +4,7 @@ use Rattle.std.specs.List.{AllZip, flat_map, list_any}
 use Rattle.std.proofs.lemmas.List.Concat.{flat_map-append}
 use Rattle.std.proofs.lemmas.List.Folds.{list_any-append}
 use Rattle.std.specs.Prelude.{IfOk, Result, Ok, Err, ◌↔◌}
-use Rattle.block_lists.specs.Choices.{IsForcedBy}
+use Rattle.block_choices.specs.Choices.{IsForcedBy}
 use Rattle.block_lists.specs.Judging.{IsRefutedBy}
 use Rattle.proof_check.specs.declared.reply.ProofReply.{ProofReply}
 use Rattle.proof_check.specs.declared.reply.ProofReply.TheVariants.{Verified, BadText, BadLog}

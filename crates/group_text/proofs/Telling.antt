@@ -6,8 +6,8 @@ use Rattle.std.proofs.lemmas.List.Sums.{sum_by_push}
 use Rattle.std.proofs.lemmas.List.Elements.{Contains-append_cases}
 use Rattle.cqa_value.proofs.Words.{mem-cases, mem-nil}
 use Rattle.cnf_form.specs.Scans.{cons_token}
-use Rattle.block_lists.specs.declared.row.BlockRow.{BlockRow}
-use Rattle.block_lists.specs.Choices.{IsThere}
+use Rattle.block_choices.specs.declared.row.BlockRow.{BlockRow}
+use Rattle.block_choices.specs.Choices.{IsThere}
 use Rattle.group_text.specs.declared.fault.Fault.{Fault}
 use Rattle.group_text.specs.Sizes.{AreSizes, going_on, size_of, sizes_after}
 use Rattle.group_text.specs.Names.{AreNamed, row_of, rows_after}

@@ -1,8 +1,8 @@
 -- What always holds of a group that is under way.
 use Rattle.std.specs.Prelude.{◌≡◌, ℕ, ◌≤◌, List, length}
 use Rattle.std.specs.List.{sum_by}
-use Rattle.block_lists.specs.declared.row.BlockRow.{BlockRow}
-use Rattle.block_lists.specs.Choices.{IsGroup}
+use Rattle.block_choices.specs.declared.row.BlockRow.{BlockRow}
+use Rattle.block_lists.specs.Groups.{IsGroup}
 use Rattle.group_text.specs.declared.limits.TheConstants.{MOST_NAMES}
 
 -- it is a group, whose lists name so many rows, which aren't too many

@@ -1,10 +1,10 @@
 -- The machine over lines: what is asked for and what is refused, line by line.
 use Rattle.std.specs.Prelude.{ℕ, ◌+◌, cond, nat_lt, List, [], ◌∷◌, ◌++◌, length, Result, Ok, Err}
 use Rattle.std.specs.List.{sum_by}
-use Rattle.block_lists.specs.declared.row.BlockRow.{BlockRow}
+use Rattle.block_choices.specs.declared.row.BlockRow.{BlockRow}
 use Rattle.group_text.specs.declared.fault.Fault.{Fault}
 use Rattle.group_text.specs.declared.fault.Fault.TheVariants.{ManyLists, NoGroup, Unfinished}
-use Rattle.block_lists.specs.declared.row.TheConstants.{MOST_GROUP_LISTS}
+use Rattle.block_lists.specs.declared.limits.TheConstants.{MOST_GROUP_LISTS}
 use Rattle.group_text.specs.Names.{rows_after}
 use Rattle.group_text.specs.Saying.{Said, said}
 use Rattle.group_text.specs.Saying.Said.{Skipped, Begins, Lists, Ends, Faulty}

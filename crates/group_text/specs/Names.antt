@@ -1,12 +1,12 @@
 -- Names of rows: `B:R`, the number of a block and that of a row in it, both from 1.
 use Rattle.std.specs.Prelude.{ℕ, ◌+◌, ◌-◌, ◌≤◌, ◌==◌, ◌&&◌, cond, Bool, nat_lt, List, [], ◌∷◌, ◌++◌, length, Contains, Option, Some, None, Result, Ok, Err, slice_index}
-use Rattle.block_lists.specs.declared.row.BlockRow.{BlockRow}
-use Rattle.block_lists.specs.Choices.{IsThere}
+use Rattle.block_choices.specs.declared.row.BlockRow.{BlockRow}
+use Rattle.block_choices.specs.Choices.{IsThere}
 use Rattle.cnf_form.specs.Formulas.{both}
 use Rattle.cnf_form.specs.Numbers.{unsigned_of}
 use Rattle.group_text.specs.declared.fault.Fault.{Fault}
 use Rattle.group_text.specs.declared.fault.Fault.TheVariants.{BadRow, ManyNames, UnknownRow}
-use Rattle.block_lists.specs.declared.row.TheConstants.{MOST_GROUP_ROWS}
+use Rattle.block_lists.specs.declared.limits.TheConstants.{MOST_GROUP_ROWS}
 use Rattle.group_text.specs.declared.limits.TheConstants.{MOST_NAMES}
 use Rattle.group_text.specs.Sizes.{going_on}
 

@@ -2,7 +2,7 @@
 use Rattle.std.specs.Prelude.{◌≡◌, ℕ, ◌+◌, Bool, true, false, List, [], ◌∷◌, ◌++◌, Option, Some, None, codes}
 use Rattle.std.specs.Fmt.{decimal}
 use Rattle.std.specs.List.{AllZip, flat_map, list_any}
-use Rattle.block_lists.specs.Choices.{IsAvoidedBy, IsForcedBy}
+use Rattle.block_choices.specs.Choices.{IsAvoidedBy, IsForcedBy}
 use Rattle.block_lists.specs.Judging.{IsRefutedBy, IsSpentFor}
 use Rattle.cnf_form.specs.declared.formula.Cnf.{Cnf}
 use Rattle.cnf_form.specs.declared.log.Log.{Log}

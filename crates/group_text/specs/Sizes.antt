@@ -4,7 +4,7 @@ use Rattle.std.specs.List.{sum}
 use Rattle.cnf_form.specs.Numbers.{unsigned_of}
 use Rattle.group_text.specs.declared.fault.Fault.{Fault}
 use Rattle.group_text.specs.declared.fault.Fault.TheVariants.{BadSize, ManyRows}
-use Rattle.block_lists.specs.declared.row.TheConstants.{MOST_GROUP_ROWS}
+use Rattle.block_lists.specs.declared.limits.TheConstants.{MOST_GROUP_ROWS}
 
 -- what comes of a value goes on with it, and a fault stays
 abbrev pub going_on : {A B : Type 0} → Result A Fault → (A → Result B Fault) → Result B Fault

@@ -1,14 +1,15 @@
 //! A row by its name: the number of its block and its own number in it, both from 1.
 
 ghost use Rattle.std.specs.Prelude.{◌≡◌, ◌<◌, ◌≤◌, IfOk, IfSome, MatchOption, None, Some};
-ghost use Rattle.block_lists.specs.Choices.{IsThere};
-ghost use Rattle.block_lists.specs.declared.row.TheConstants.{MOST_GROUP_ROWS};
+ghost use Rattle.block_choices.specs.Choices.{IsThere};
+ghost use Rattle.block_lists.specs.declared.limits.TheConstants.{MOST_GROUP_ROWS};
 ghost use Rattle.cnf_form.specs.Lines.{token_of};
 ghost use Rattle.group_text.specs.Names.{after_colon, before_colon, numbers_of, row_at, row_of};
 
 use crate::Fault;
 use crate::limits::MOST_NAMES;
-use block_lists::{BlockRow, MOST_GROUP_ROWS};
+use block_choices::BlockRow;
+use block_lists::MOST_GROUP_ROWS;
 use cnf_form::scan::read_unsigned;
 
 /// The bytes before the first colon, and those behind it.

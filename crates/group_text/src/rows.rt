@@ -7,7 +7,7 @@ ghost use Rattle.group_text.specs.Names.{AreNamed, rows_after};
 use crate::Fault;
 use crate::limits::MOST_NAMES;
 use crate::naming::read_row;
-use block_lists::BlockRow;
+use block_choices::BlockRow;
 use cnf_form::scan::next_token;
 use cqa_value::NoMemory;
 

@@ -1,7 +1,7 @@
 //! The sizes of a group's blocks.
 
 ghost use Rattle.std.specs.Prelude.{◌≡◌, ◌<◌, ◌+◌, ◌≤◌, IfOk, MatchResult, Ok, Err};
-ghost use Rattle.block_lists.specs.declared.row.TheConstants.{MOST_GROUP_ROWS};
+ghost use Rattle.block_lists.specs.declared.limits.TheConstants.{MOST_GROUP_ROWS};
 ghost use Rattle.cnf_form.specs.Lines.{line_of, token_of, tokens};
 ghost use Rattle.group_text.specs.Sizes.{AreSizes, size_of, sizes_of};
 

@@ -13,7 +13,7 @@ use Rattle.row_lists.proofs.Naming.{named-place}
 use Rattle.join_witness.proofs.Listing.{all_names}
 use Rattle.part_search.specs.Parts.{AllFit, AreNamesIn}
 use Rattle.part_search.proofs.Forced.{certain_is_forced, names_of_parts}
-use Rattle.block_lists.specs.declared.row.BlockRow.{BlockRow}
+use Rattle.block_choices.specs.declared.row.BlockRow.{BlockRow}
 use Rattle.block_lists.specs.declared.judging.Judged.TheVariants.{Certain, Open, Spent}
 use Rattle.told_lists.specs.Telling.{AreListsTold, AreWitnessesTold}
 use Rattle.told_lists.specs.Laws.{JudgedIsCertain, JudgedIsCertainIn, VerdictsHold}

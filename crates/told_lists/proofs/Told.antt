@@ -7,8 +7,8 @@ use Rattle.cqa_model.specs.Database.{Table, IsDatabase}
 use Rattle.row_lists.specs.Lists.{IsForced, IsIn, IsStored, AreStoredLists, IsOfBlock, SatisfiesNames}
 use Rattle.row_lists.proofs.Words.{block-self}
 use Rattle.row_lists.proofs.Lists.{names_decide}
-use Rattle.block_lists.specs.declared.row.BlockRow.{BlockRow}
-use Rattle.block_lists.specs.Choices.{IsChoice, Chooses, HoldsWhole, HoldsSome, IsForcedBy}
+use Rattle.block_choices.specs.declared.row.BlockRow.{BlockRow}
+use Rattle.block_choices.specs.Choices.{IsChoice, Chooses, HoldsWhole, HoldsSome, IsForcedBy}
 use Rattle.block_lists.proofs.Decisions.{Option-dec, dec_each, dec_some, find_in, stable}
 use Rattle.told_lists.specs.Telling.{row_of, IsTelling, AreTold, AreListsTold}
 use Rattle.told_lists.specs.Laws.{ToldDecide}

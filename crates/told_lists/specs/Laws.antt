@@ -9,10 +9,10 @@ use Rattle.cqa_model.specs.Certain.{IsCertain}
 use Rattle.cqa_model.specs.Unions.{IsCertainIn}
 use Rattle.row_lists.specs.Lists.{AreStoredLists, IsForced}
 use Rattle.part_search.specs.Parts.{AllFit}
-use Rattle.block_lists.specs.declared.row.BlockRow.{BlockRow}
+use Rattle.block_choices.specs.declared.row.BlockRow.{BlockRow}
 use Rattle.block_lists.specs.declared.judging.Judged.{Judged}
 use Rattle.block_lists.specs.declared.judging.Judged.TheVariants.{Certain, Open, Spent}
-use Rattle.block_lists.specs.Choices.{IsForcedBy}
+use Rattle.block_choices.specs.Choices.{IsForcedBy}
 use Rattle.block_lists.specs.Judging.{IsJudged}
 use Rattle.told_lists.specs.Telling.{AreListsTold, AreWitnessesTold, IsTelling}
 

@@ -6,8 +6,8 @@ use Rattle.cqa_model.specs.declared.query.RowId.{RowId}
 use Rattle.cqa_model.specs.Database.{Table}
 use Rattle.row_lists.specs.Lists.{IsIn, IsStored, IsOfBlock}
 use Rattle.part_search.specs.Parts.{IsOfSome}
-use Rattle.block_lists.specs.declared.row.BlockRow.{BlockRow}
-use Rattle.block_lists.specs.Choices.{IsThere}
+use Rattle.block_choices.specs.declared.row.BlockRow.{BlockRow}
+use Rattle.block_choices.specs.Choices.{IsThere}
 
 -- a row by its numbers
 abbrev pub row_of : ℕ → ℕ → BlockRow

@@ -1,7 +1,7 @@
 use Rattle.std.proofs.Common.{◌<◌, ◌++◌, ◌∷◌, [], List, ℕ, get_or, take, ◌+◌, sym, subst, arith}
 use Rattle.std.proofs.lemmas.List.{take_more}
 use Rattle.std.proofs.lemmas.List.Elements.{Contains-get_or}
-use Rattle.block_lists.specs.Choices.{IsChoice}
+use Rattle.block_choices.specs.Choices.{IsChoice}
 use Rattle.block_lists.proofs.Bases.{sum-more}
 use Rattle.block_lists.proofs.Choosing.{choice-push}
 use Rattle.block_lists.proofs.Picking.{block-length}

@@ -1,5 +1,5 @@
 use Rattle.std.proofs.Common.{◌≡◌, ◌<◌, ◌+◌, List, ◌∷◌, [], ◌++◌, Ok, length, sym, ◌∙◌, ap, subst, arith}
-use Rattle.block_lists.specs.declared.row.BlockRow.{BlockRow}
+use Rattle.block_choices.specs.declared.row.BlockRow.{BlockRow}
 use Rattle.cnf_form.specs.Lines.{line_of, tokens}
 use Rattle.group_text.specs.Names.{AreNamed, row_of, rows_after}
 use Rattle.group_text.proofs.Telling.{row_more, rows_are_more}

@@ -1,5 +1,5 @@
 use Rattle.std.proofs.Common.{◌≡◌, ◌++◌, ◌∷◌, [], ℕ, ◌+◌, List, length, sym, ◌∙◌, ap, subst, arith}
-use Rattle.block_lists.specs.declared.row.BlockRow.{BlockRow}
+use Rattle.block_choices.specs.declared.row.BlockRow.{BlockRow}
 use Rattle.group_text.specs.Fitting.{IsFit}
 use Rattle.group_text.specs.Names.{AreNamed}
 use Rattle.group_text.proofs.Fit.{fit_more}

@@ -1,0 +1,2 @@
+-- Stretches: a pool that grows.
+pub mod Stretches
