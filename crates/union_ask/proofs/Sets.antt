@@ -1,14 +1,15 @@
 -- Candidates and tables of the parts so far.
 use Rattle.std.proofs.Common.{◌≡◌, ◌⊎◌, ◌↔◌, inl, inr, ℕ, ◌+◌, ◌<◌, ◌≤◌, List, [], ◌∷◌, ◌++◌, length, get_or, take, ap, sym, ◌∙◌, subst, arith, Contains}
-use Rattle.std.proofs.lemmas.List.Elements.{Contains-append_left, Contains-append_right, Contains-push_cases}
+use Rattle.std.proofs.lemmas.List.Elements.{Contains-get_or, Contains-append_left, Contains-append_right, Contains-push_cases}
 use Rattle.cqa_value.specs.declared.value.Value.{Value}
-use Rattle.cqa_value.proofs.Words.{cases_next, mem-head, mem-tail, mem-nil, mem-cases}
+use Rattle.cqa_value.proofs.Words.{cases_next, mem-head, mem-tail, mem-nil, mem-cases, member_place}
 use Rattle.cqa_model.specs.declared.query.Query.{Query}
 use Rattle.cqa_model.specs.Database.{Table}
 use Rattle.cqa_model.specs.Query.{atom_at}
-use Rattle.cqa_model.specs.Certain.{IsCandidate}
+use Rattle.cqa_model.specs.Certain.{IsCandidate, IsPossibleAnswer}
 use Rattle.cqa_model.specs.Unions.{IsCandidateIn}
 use Rattle.part_search.specs.Parts.{IsTableOf, IsTableIn}
+use Rattle.union_ask.specs.Candidates.{AreCandidatesIn}
 use Rattle.part_search.proofs.Taking.{some-none, some-more, some-all, all-some}
 
 -- ---- rows that are put in, one after the other
@@ -62,6 +63,30 @@ module _ (db : List Table) (parts : List Query) where
 
   pub candidates-all : (at : ℕ) (answers : List (List Value)) → length parts ≤ at → ((row : List Value) → Contains answers row ↔ IsCandidateIn db (take at parts) row) → (row : List Value) → Contains answers row ↔ IsCandidateIn db parts row
   candidates-all at answers l h row = (λ m. some-all (λ q. IsCandidate db q row) parts at l ((h row).0 m), λ c. (h row).1 (all-some (λ q. IsCandidate db q row) parts at l c))
+
+-- ---- the candidates of the only part
+
+module _ (parts : List Query) (q : Query) (one : length parts ≡ 1) (is : q ≡ get_or parts 0 q) where
+  pub one-part-in : Contains parts q
+  one-part-in = subst (Contains parts) (sym is) (Contains-get_or parts 0 q (omega (arith, one)))
+
+  only : (p : Query) → Contains parts p → p ≡ q
+  only p m =
+      let at = member_place parts p q m in
+      let l = at.1 in
+      let first : at.0 ≡ 0 = omega (arith, l, one) in
+      sym at.2 ∙ (ap (λ i. get_or parts i q) first ∙ sym is)
+
+module _ (db : List Table) (parts : List Query) (q : Query) (one : length parts ≡ 1) (is : q ≡ get_or parts 0 q) where
+  pub one-candidates : (tables : List Table) (p : Query) → tables ≡ db → p ≡ q → (rows : List (List Value)) → IsPossibleAnswer tables p rows → ((row : List Value) → Contains rows row ↔ IsCandidate tables p row) →
+      AreCandidatesIn db parts rows
+  one-candidates tables p same_db same rows possible exactly = record {
+    ascending = possible.ascending;
+    exactly = λ row. (
+      λ m. (q, one-part-in parts q one is, subst (λ x. IsCandidate db x row) same (subst (λ t. IsCandidate t p row) same_db ((exactly row).0 m))),
+      λ s. (exactly row).1 (subst (λ t. IsCandidate t p row) (sym same_db) (subst (λ x. IsCandidate db x row) (only parts q one is s.0 s.1 ∙ sym same) s.2)),
+    );
+  }
 
 -- ---- the tables of the atoms so far, and of the parts so far
 

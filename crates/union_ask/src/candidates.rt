@@ -1,6 +1,6 @@
 //! The candidates of a union: the rows that have a witness for some part. They are the possible rows of the union.
 
-ghost use Rattle.std.specs.Prelude.{◌≡◌, ◌⊎◌, ◌↔◌, [], IfOk, IsTrue, List, Contains};
+ghost use Rattle.std.specs.Prelude.{◌≡◌, ◌⊎◌, ◌↔◌, [], IfOk, IsTrue, List, Contains, length};
 ghost use Rattle.std.specs.List.Sorted.{IsStrictlySortedBy};
 ghost use Rattle.cqa_value.specs.declared.value.Value.{Value as Cell};
 ghost use Rattle.cqa_value.specs.Values.{row_cmp};
@@ -108,14 +108,9 @@ fn ordered(alloc: Global, rows: Vec<Row>) -> Result<Items<Row>, NoMemory>
     }
 }
 
-/// The rows that have a witness for some part among the stored rows, ascending and each once: the possible rows of the union.
-///
-/// # Errors
-///
-/// `NoMemory` where memory is refused.
-pub fn union_candidates(alloc: Global, parts: &BoundParts<'_>) -> Result<Items<Row>, NoMemory>
-    ensures candidates { IfOk result (AreCandidatesIn parts.now.db.now parts.now.queries.now) }
-    ensures possible { IfOk result (IsPossibleUnionAnswer parts.now.db.now parts.now.queries.now) }
+/// The candidates of several parts.
+fn candidates_of_all(alloc: Global, parts: &BoundParts<'_>) -> Result<Items<Row>, NoMemory>
+    ensures { IfOk result (AreCandidatesIn parts.now.db.now parts.now.queries.now) }
 {
     let mut rows = Vec::new(alloc);
     match gather_candidates(alloc, parts, &mut rows) {
@@ -128,4 +123,38 @@ pub fn union_candidates(alloc: Global, parts: &BoundParts<'_>) -> Result<Items<R
             Err(fault)
         }
     }
+}
+
+/// The candidates of the only part, which come in order.
+fn candidates_of_one(alloc: Global, parts: &BoundParts<'_>) -> Result<Items<Row>, NoMemory>
+    requires { length parts.now.queries.now ≡ 1 }
+    ensures { IfOk result (AreCandidatesIn parts.now.db.now parts.now.queries.now) }
+{
+    let bound = Bound::new(parts.db, &parts.queries[0]);
+    let list = candidates(alloc, &bound)?;
+    Ok(list)
+}
+
+/// The candidates of all parts, ascending and each once.
+fn listed(alloc: Global, parts: &BoundParts<'_>) -> Result<Items<Row>, NoMemory>
+    ensures { IfOk result (AreCandidatesIn parts.now.db.now parts.now.queries.now) }
+{
+    if parts.queries.len() == 1 {
+        candidates_of_one(alloc, parts)
+    } else {
+        candidates_of_all(alloc, parts)
+    }
+}
+
+/// The rows that have a witness for some part among the stored rows, ascending and each once: the possible rows of the union.
+///
+/// # Errors
+///
+/// `NoMemory` where memory is refused.
+pub fn union_candidates(alloc: Global, parts: &BoundParts<'_>) -> Result<Items<Row>, NoMemory>
+    ensures candidates { IfOk result (AreCandidatesIn parts.now.db.now parts.now.queries.now) }
+    ensures possible { IfOk result (IsPossibleUnionAnswer parts.now.db.now parts.now.queries.now) }
+{
+    let list = listed(alloc, parts)?;
+    Ok(list)
 }
