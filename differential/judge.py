@@ -7,7 +7,8 @@ Each seed makes an input of some groups: most are right, and some have lines tha
 machine here reads it by a reader of its own, and each reply of `judge` has to be true: `certain` where each choice holds a list
 whole, `open` with a choice that holds none, `refused` with the number of the line and the first fault of the line. `judge
 reasons` has to reply the same, and what stands from `certain` to `c end` has to be the group's formula and has to be `verified`
-by `check`. The input goes over a pipe in pieces of 1, 2 and 7 bytes, too, and with a small budget, where a hard group may be
+by `check`. `judge ranges` reads such an input with weights, and has to reply the least and the greatest value of all choices, each
+with a choice that has it. The input goes over a pipe in pieces of 1, 2 and 7 bytes, too, and with a small budget, where a hard group may be
 refused as `Spent`. The last line says how much was tried; the status is 0 where nothing differed. Python 3.9 and its library
 alone are needed.
 """
@@ -24,6 +25,7 @@ TOP = os.path.dirname(os.path.dirname(os.path.abspath(__file__)))
 PROGRAM = os.path.join(TOP, "crates", "cqa_cli", "out", "cqa_cli")
 MOST_ROWS = 1_000_000
 MOST_NUMBER = 1_000_000
+MOST_WEIGHT = 2**63 - 1
 PIECES = (1, 2, 7)
 CHECKED = 4
 
@@ -77,10 +79,21 @@ def row_of(token, sizes):
     return block, row
 
 
-class Machine:
-    """Reads lines one after another. `events` has what is to be judged or refused, each with the number of its line."""
+def weight_of(tokens):
+    """What the tokens behind the rows of a list say it weighs."""
+    if not tokens:
+        return 1
+    if len(tokens) != 2 or not re.fullmatch(rb"-?[0-9]+", tokens[1]) or not -MOST_WEIGHT - 1 <= int(tokens[1]) <= MOST_WEIGHT:
+        raise Faulty("BadWeight")
+    return int(tokens[1])
 
-    def __init__(self):
+
+class Machine:
+    """Reads lines one after another. `events` has what is to be judged or refused, each with the number of its line. ranges: whether
+    lists have weights, and stand with them in a group."""
+
+    def __init__(self, ranges):
+        self.ranges = ranges
         self.group = None
         self.passes = False
         self.events = []
@@ -99,7 +112,9 @@ class Machine:
         if self.group is None:
             raise Faulty("NoGroup")
         sizes, lists = self.group
-        lists.append([row_of(token, sizes) for token in tokens])
+        end = tokens.index(b"=") if self.ranges and b"=" in tokens else len(tokens)
+        rows = [row_of(token, sizes) for token in tokens[:end]]
+        lists.append((rows, weight_of(tokens[end:])) if self.ranges else rows)
 
     def end(self, at, tokens):
         if tokens:
@@ -130,8 +145,8 @@ class Machine:
             self.group, self.passes = None, True
 
 
-def events_of(data):
-    machine = Machine()
+def events_of(data, ranges):
+    machine = Machine(ranges)
     lines = lines_of(data)
     for at, line in enumerate(lines, 1):
         machine.line(at, line)
@@ -154,6 +169,16 @@ def is_forced(sizes, lists):
 def avoids(sizes, lists, choice):
     fits = len(choice) == len(sizes) and all(1 <= row <= size for row, size in zip(choice, sizes))
     return fits and not any(holds(choice, rows) for rows in lists)
+
+
+def value_of(choice, lists):
+    return sum(weight for rows, weight in lists if holds(choice, rows))
+
+
+def is_range(sizes, lists, least, low, greatest, high):
+    """Whether these are the least and the greatest value of all choices, and these choices have them."""
+    values = {choice: value_of(choice, lists) for choice in itertools.product(*[range(1, size + 1) for size in sizes])}
+    return (values.get(low), values.get(high)) == (least, greatest) == (min(values.values()), max(values.values()))
 
 
 def formula_of(sizes, lists):
@@ -215,17 +240,27 @@ def compare_reply(at, fault, group, reply, budget):
         raise Differs("line %d: %r" % (at, reply))
 
 
+def compare_range(at, fault, group, reply, budget):
+    found = re.fullmatch(r"least (-?[0-9]+)((?: [0-9]+)*) greatest (-?[0-9]+)((?: [0-9]+)*)", reply)
+    if fault is None and found:
+        low, high = (tuple(map(int, rows.split())) for rows in found.group(2, 4))
+        if not is_range(*group, int(found[1]), low, int(found[3]), high):
+            raise Differs("line %d: %r" % (at, reply))
+    elif reply != "refused line %d %s" % (at, fault if fault is not None else "Spent work %s" % budget):
+        raise Differs("line %d: %r, and not %s" % (at, reply, fault))
+
+
 def compare(program, data, words, piece=None):
     """Compares a run's replies with the events of the input, and gives their number."""
-    reasons = "reasons" in words
+    reasons, ranges = "reasons" in words, "ranges" in words
     budget = int(words[-1]) if words[-1].isdigit() else None
     status, text = run(program, words, data, piece)
-    events, replies = events_of(data), list(replies_of(text, reasons))
+    events, replies = events_of(data, ranges), list(replies_of(text, reasons))
     if len(events) != len(replies):
         raise Differs("%d replies in place of %d" % (len(replies), len(events)))
     checked = 0
     for (at, fault, group), (reply, proof) in zip(events, replies):
-        compare_reply(at, fault, group, reply, budget)
+        (compare_range if ranges else compare_reply)(at, fault, group, reply, budget)
         if proof is not None:
             compare_proof(program, group, proof, checked < CHECKED)
             checked += 1
@@ -237,18 +272,24 @@ def compare(program, data, words, piece=None):
 
 # Inputs.
 
-def group_text(rng):
+def weight_text(rng):
+    weight = rng.choice((rng.randint(-9, 9), rng.randint(-9, 9), rng.randint(-99, 99), MOST_WEIGHT, -MOST_WEIGHT - 1))
+    return " = %d" % weight if rng.random() < 0.8 else ""
+
+
+def group_text(rng, weighted):
     sizes = [rng.choice((1, 2, 2, 3)) for _ in range(rng.randint(0, 6))]
     lines = ["g " + " ".join(map(str, sizes))]
     for _ in range(rng.choice((0, 1, 2, 3, 5, 8, 20))):
         blocks = [rng.randrange(len(sizes)) for _ in range(rng.randint(0 if rng.random() < 0.05 else 1, 3))] if sizes else []
-        lines.append("l " + " ".join("%d:%d" % (block + 1, rng.randint(1, sizes[block])) for block in blocks))
+        lines.append("l " + " ".join("%d:%d" % (block + 1, rng.randint(1, sizes[block])) for block in blocks) + (weight_text(rng) if weighted else ""))
     return lines + ["e"]
 
 
 ODD = ["", "c a comment", "certain", " c", "g", "g 0", "g 2 x", "g 1000000 1", "g 1000001", "g 2 2 2", "l", "l 1:1", "l 1:9", "l 9:1", "l 0:1",
        "l 1:0", "l 1", "l 1:1:1", "l :1", "l 1:", "l 1:1000001", "l 1:x", "e", "e e", "x", "l\t1:1\r", "g\r", "e \r", "g +1", "l 01:001",
-       "g 007", "L 1:1", "gg", "l 1:1 2", "g -1", "l -1:1"]
+       "g 007", "L 1:1", "gg", "l 1:1 2", "g -1", "l -1:1", "l 1:1 = 5", "l = -7", "l 1:1 =", "l 1:1 = x", "l 1:1 = 1 2", "l 1:1 =5", "l = = 1",
+       "l 1:1 = -007", "l 1:1 = 9223372036854775808", "l 1:1 = -9223372036854775809", "l 1:9 = x", "l 1:1 = +5", "l 1:1 = 5 1:1", "l 1:1 = -"]
 
 
 def changed(rng, lines):
@@ -267,10 +308,10 @@ def changed(rng, lines):
     return lines
 
 
-def input_of(rng):
+def input_of(rng, weighted=False):
     lines = []
     for _ in range(rng.randint(1, 12)):
-        group = group_text(rng)
+        group = group_text(rng, weighted)
         lines += changed(rng, group) if rng.random() < 0.4 else group
     end = rng.choice(("\n", "\n", "\n", "", "\r\n"))
     return (rng.choice(("\n", "\n", "\r\n")).join(lines) + end).encode()
@@ -289,11 +330,15 @@ def main():
         ways = [(["judge"], None), (["judge", "reasons"], None), (["judge", str(rng.choice((0, 1, 200_000)))], None)]
         if seed % 10 == 0:
             ways += [(["judge"], piece) for piece in PIECES]
-        for words, piece in ways:
+        weighted = input_of(rng, True)
+        ranges = [(["judge", "ranges"], None), (["judge", "ranges", str(rng.choice((0, 5, 50, 1_000_000)))], None)]
+        if seed % 10 == 0:
+            ranges += [(["judge", "ranges"], piece) for piece in PIECES]
+        for text, words, piece in [(data, *way) for way in ways] + [(weighted, *way) for way in ranges]:
             try:
-                replies += compare(given.program, data, words, piece)
+                replies += compare(given.program, text, words, piece)
             except Differs as why:
-                print("seed %d, %s: %s\n%s" % (seed, " ".join(words), why, data.decode()))
+                print("seed %d, %s: %s\n%s" % (seed, " ".join(words), why, text.decode()))
                 return 1
     print("%d inputs, %d replies: no difference" % (given.count, replies))
     return 0

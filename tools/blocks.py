@@ -4,7 +4,7 @@
     tools/blocks.py [PROGRAM]
 
 A block ```cqa is a script, and the block ```reply behind it what the program has to write; a block ```groups has lists for
-`judge`, and the block ```verdicts behind it the replies. In docs/ each script is a
+`judge`, and the block ```verdicts behind it the replies, and so have ```ranges and ```values for `judge ranges`. In docs/ each script is a
 session of its own; in README.md all of them are one, which has to be the stored run of cqa_cli. Rows of a table whose first
 cell is a statement and whose second is its reply, both in back quotes, are run behind the table `staff`. An example is a
 script NAME.cqa, or a proof NAME.lrat or NAME.rewriting, with its output NAME.out beside it; the proof that search.cqa ends
@@ -27,9 +27,9 @@ def read(*path):
         return file.read()
 
 
-def replies(script, word="run"):
+def replies(script, words="run"):
     """What the program writes."""
-    ran = subprocess.run([PROGRAM, word], input=script.encode(), stdout=subprocess.PIPE, check=False)
+    ran = subprocess.run([PROGRAM, *words.split()], input=script.encode(), stdout=subprocess.PIPE, check=False)
     return ran.stdout.decode()
 
 
@@ -45,12 +45,14 @@ def compare(where, script, expected, got):
 
 
 def scripts():
-    """The scripts and proofs of pages and examples, each with its place, its word and what the program has to write."""
+    """The scripts and proofs of pages and examples, each with its place, its words and what the program has to write."""
     for name in ("LANGUAGE.md", "SQL.md"):
         for script, expected in blocks(read("docs", name)):
             yield "docs/" + name, script, "run", expected
         for groups, expected in blocks(read("docs", name), "groups", "verdicts"):
             yield "docs/" + name, groups, "judge", expected
+        for groups, expected in blocks(read("docs", name), "ranges", "values"):
+            yield "docs/" + name, groups, "judge ranges", expected
     script, expected = tour()
     yield "README.md", script, "run", expected
     for path in sorted(glob.glob(os.path.join(TOP, "examples", "*.out"))):
@@ -87,8 +89,8 @@ def stored_tour():
 
 def main():
     failed = stored_tour() + proofs(replies)
-    for where, script, word, expected in scripts():
-        failed += compare(where, script, expected, replies(script, word))
+    for where, script, words, expected in scripts():
+        failed += compare(where, script, expected, replies(script, words))
     for script, expected in statements():
         failed += compare("docs/LANGUAGE.md", script, expected, replies(script).split("\n")[1])
     print("%d differ" % failed if failed else "all blocks and examples agree")

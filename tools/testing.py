@@ -44,8 +44,8 @@ def cases():
         wanted = read(os.path.join(DATA, topic + ".out"))
         status = int(any(line.startswith((b"error ", b"refused ")) for line in wanted.split(b"\n")))
         yield "script_tests/data/" + name, Run((WORDS.get(kind, "check"),), read(os.path.join(DATA, name))), status, wanted, False
-    for where, script, word, expected in blocks.scripts():
-        yield where, Run((word,), script.encode()), None, expected.encode(), False
+    for where, script, words, expected in blocks.scripts():
+        yield where, Run(tuple(words.split()), script.encode()), None, expected.encode(), False
     for script, expected in blocks.statements():
         yield "docs/LANGUAGE.md: %s" % script.split("\n")[1], Run(("run",), script.encode()), None, expected.encode(), True
 

@@ -51,3 +51,10 @@ there-at sizes (k ∷ lists) (suc at) l h = there-at sizes lists at (omega (arit
 
 pub same-list : (l : Weighted) (w : ℤ) (names : List BlockRow) → w ≡ l.weight → names ≡ l.names → record { weight = w; names = names } ≡ l
 same-list l w names e f = ap (λ (n : ℤ). record { weight = n; names = names }) e ∙ ap (λ (ns : List BlockRow). record { weight = l.weight; names = ns }) f
+
+-- the rows of each list
+pub names-all : (ws : List ℤ) (ls : List (List BlockRow)) → length ws ≡ length ls → ls ≡ map (λ l. l.names) (weighted ws ls)
+names-all [] [] e = refl
+names-all [] (k ∷ ls) e = absurd (omega (arith, e))
+names-all (v ∷ ws) [] e = absurd (omega (arith, e))
+names-all (v ∷ ws) (k ∷ ls) e = ap (λ xs. k ∷ xs) (names-all ws ls (omega (arith, e)))

@@ -1,6 +1,6 @@
 //! Lists of rows with weights, in one pool.
 
-ghost use Rattle.std.specs.Prelude.{◌≡◌, ◌<◌, ◌++◌, ◌∷◌, [], length, OnErr, OnOk};
+ghost use Rattle.std.specs.Prelude.{◌≡◌, ◌<◌, ◌++◌, ◌∷◌, [], length, map, OnErr, OnOk};
 ghost use Rattle.choice_values.specs.Pairs.{list_at};
 
 use block_choices::{BlockRow, Lists};
@@ -61,6 +61,13 @@ impl WeightedLists {
             self.weights.pop();
         }
         added
+    }
+
+    /// The lists without their weights.
+    pub fn lists(&self) -> &Lists
+        ensures { result.now ≡ map (λ l. l.names) self.now }
+    {
+        &self.lists
     }
 
     /// How many lists there are.

@@ -4,6 +4,7 @@ use Rattle.std.proofs.lemmas.List.{length-append}
 use Rattle.std.specs.Io.KnownBytes.{Consumes}
 use Rattle.std.proofs.KnownBytes.{Appends-nil, Consumes-nil}
 use Rattle.cqa_io.specs.Causes.{Rose}
+use Rattle.group_text.specs.declared.wanted.Wanted.{Wanted}
 use Rattle.command_shell.specs.declared.ending.Command.{Command}
 use Rattle.command_shell.specs.declared.ending.Command.TheVariants.{Run, Check, Demo, Judge}
 use Rattle.command_shell.specs.declared.ending.Ending.{Ending}
@@ -88,15 +89,15 @@ far_too_long None now came took short long = short
 far_too_long (Some bytes) None came took short long = took
 far_too_long (Some bytes) (Some rest) came took short long = far_longer came rest (subst (λ l. length l ≤ limit) took short) long
 
-judge_completed : (reasons : Bool) (budget : ℕ) (ending : Ending) (call : Call) (status : ℕ) → status ≡ code_of ending → Consumes call.before.left call.after.left call.came → JudgeRow reasons budget ending call
+judge_completed : (wanted : Wanted) (budget : ℕ) (ending : Ending) (call : Call) (status : ℕ) → status ≡ code_of ending → Consumes call.before.left call.after.left call.came → JudgeRow wanted budget ending call
     → (CountsReadFault call → ⊥) → (CountsWriteFault call → ⊥) → IsWithinLimit call.before.left → IsCompleted status
-judge_completed reasons budget Answered call status is took row reads writes short = inl is
-judge_completed reasons budget WithRefusal call status is took row reads writes short = inr (inl is)
-judge_completed reasons budget BadWords call status is took row reads writes short = absurd row
-judge_completed reasons budget ReadFault call status is took row reads writes short = absurd (reads row.0)
-judge_completed reasons budget WriteFault call status is took row reads writes short = absurd (writes row.0)
-judge_completed reasons budget OutOfMemory call status is took row reads writes short = inr (inr is)
-judge_completed reasons budget TooLong call status is took row reads writes short = absurd (far_too_long call.before.left call.after.left call.came took short row.0)
+judge_completed wanted budget Answered call status is took row reads writes short = inl is
+judge_completed wanted budget WithRefusal call status is took row reads writes short = inr (inl is)
+judge_completed wanted budget BadWords call status is took row reads writes short = absurd row
+judge_completed wanted budget ReadFault call status is took row reads writes short = absurd (reads row.0)
+judge_completed wanted budget WriteFault call status is took row reads writes short = absurd (writes row.0)
+judge_completed wanted budget OutOfMemory call status is took row reads writes short = inr (inr is)
+judge_completed wanted budget TooLong call status is took row reads writes short = absurd (far_too_long call.before.left call.after.left call.came took short row.0)
 
 -- a call without a fault over an input within the limit
 pub completed : (command : Option Command) (ending : Ending) (before after : Outside) (old new : State) (status : ℕ) → status ≡ code_of ending → Ended command ending before after old new
@@ -104,5 +105,5 @@ pub completed : (command : Option Command) (ending : Ending) (before after : Out
 completed (Some Run) ending before after old new status is e some reads writes short = run_completed ending _ status is e.took e.row reads writes short
 completed (Some Check) ending before after old new status is e some reads writes short = check_completed ending _ status is e.took e.row.0 reads writes short
 completed (Some (Demo size)) ending before after old new status is e some reads writes short = demo_completed size ending _ status is e.row writes
-completed (Some (Judge reasons budget)) ending before after old new status is e some reads writes short = judge_completed reasons budget ending _ status is e.took e.row.0 reads writes short
+completed (Some (Judge wanted budget)) ending before after old new status is e some reads writes short = judge_completed wanted budget ending _ status is e.took e.row.0 reads writes short
 completed None ending before after old new status is e some reads writes short = absurd (some refl)

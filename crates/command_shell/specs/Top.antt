@@ -13,21 +13,22 @@ use Rattle.cqa_model.specs.declared.limits.TheConstants.{LONGEST_INPUT}
 use Rattle.case_maker.specs.Scripts.{script_bytes}
 use Rattle.command_shell.specs.Runs.{Answers, CutShort}
 use Rattle.command_shell.specs.GoingOn.{BeginsRun}
+use Rattle.group_text.specs.declared.wanted.Wanted.{Wanted}
 use Rattle.group_stream.specs.declared.ending.TheConstants.{MOST_JUDGED}
 use Rattle.group_stream.specs.Judges.{BeginsReplies, Judges}
-use Rattle.command_shell.specs.Judging.{HaveBudget, judge_words}
+use Rattle.command_shell.specs.Judging.{HaveBudget, judge_words, usual_budget}
 use Rattle.command_shell.specs.Demo.{IsSize, IsDemo, BeginsDemo, BreaksOffIn}
 
 -- the most bytes of input that a call answers
 abbrev pub limit : ℕ
 limit = LONGEST_INPUT
 
--- the words that stand for a command: `run` or `check` alone, `demo` and a size, or `judge`, which `reasons` and a budget may follow
+-- the words that stand for a command: `run` or `check` alone, `demo` and a size, or `judge`, which `reasons` or `ranges` and a budget may follow
 abbrev pub StandFor : List (List ℕ) → Command → Type 0
 StandFor words Run = words ≡ codes "run" ∷ []
 StandFor words Check = words ≡ codes "check" ∷ []
 StandFor words (Demo size) = (digits : List ℕ) × (words ≡ codes "demo" ∷ digits ∷ []) × IsSize digits size
-StandFor words (Judge reasons budget) = HaveBudget (judge_words reasons) words budget
+StandFor words (Judge wanted budget) = HaveBudget (judge_words wanted) (usual_budget wanted) words budget
 
 abbrev pub AreWordsFor : List (String Global) → Command → Type 0
 AreWordsFor words command = StandFor (map string_bytes words) command
@@ -130,21 +131,21 @@ DemoRow size TooLong call = ⊥
 
 -- The replies to the bytes within the limit were cut short, and what was written begins the replies to all of these bytes: to them as they were taken,
 -- which is for an input that has ended only where they are one, and to them as an input that has ended.
-pub record JudgingBreaksOff (reasons : Bool) (budget : ℕ) (call : Call) : Type 0 where
+pub record JudgingBreaksOff (wanted : Wanted) (budget : ℕ) (call : Call) : Type 0 where
   pub taken : Bool
   pub is_end : taken ≡ true → IsReadToEnd call × (length call.came ≤ MOST_JUDGED)
-  pub whole : BeginsReplies reasons budget (take MOST_JUDGED call.came) taken call.written
-  pub ended : BeginsReplies reasons budget (take MOST_JUDGED call.came) true call.written
+  pub whole : BeginsReplies wanted budget (take MOST_JUDGED call.came) taken call.written
+  pub ended : BeginsReplies wanted budget (take MOST_JUDGED call.came) true call.written
 
--- The row of each ending of `judge`, with reasons or without, by searches of at most so many conflicts.
-abbrev pub JudgeRow : Bool → ℕ → Ending → Call → Type 0
-JudgeRow reasons budget Answered call = IsReadToEnd call × (length call.came ≤ MOST_JUDGED) × Judges reasons budget call.came true call.written false
-JudgeRow reasons budget WithRefusal call = IsReadToEnd call × (length call.came ≤ MOST_JUDGED) × Judges reasons budget call.came true call.written true
-JudgeRow reasons budget BadWords call = ⊥
-JudgeRow reasons budget ReadFault call = CountsReadFault call × (length call.came ≤ MOST_JUDGED) × ((refused : Bool) × Judges reasons budget call.came false call.written refused)
-JudgeRow reasons budget WriteFault call = CountsWriteFault call × (length call.came ≤ MOST_JUDGED + 1) × JudgingBreaksOff reasons budget call
-JudgeRow reasons budget OutOfMemory call = (length call.came ≤ MOST_JUDGED + 1) × JudgingBreaksOff reasons budget call
-JudgeRow reasons budget TooLong call = (length call.came ≡ MOST_JUDGED + 1) × ((refused : Bool) × Judges reasons budget (take MOST_JUDGED call.came) false call.written refused)
+-- The row of each ending of `judge`, for what is wanted of each group, by a budget for each search.
+abbrev pub JudgeRow : Wanted → ℕ → Ending → Call → Type 0
+JudgeRow wanted budget Answered call = IsReadToEnd call × (length call.came ≤ MOST_JUDGED) × Judges wanted budget call.came true call.written false
+JudgeRow wanted budget WithRefusal call = IsReadToEnd call × (length call.came ≤ MOST_JUDGED) × Judges wanted budget call.came true call.written true
+JudgeRow wanted budget BadWords call = ⊥
+JudgeRow wanted budget ReadFault call = CountsReadFault call × (length call.came ≤ MOST_JUDGED) × ((refused : Bool) × Judges wanted budget call.came false call.written refused)
+JudgeRow wanted budget WriteFault call = CountsWriteFault call × (length call.came ≤ MOST_JUDGED + 1) × JudgingBreaksOff wanted budget call
+JudgeRow wanted budget OutOfMemory call = (length call.came ≤ MOST_JUDGED + 1) × JudgingBreaksOff wanted budget call
+JudgeRow wanted budget TooLong call = (length call.came ≡ MOST_JUDGED + 1) × ((refused : Bool) × Judges wanted budget (take MOST_JUDGED call.came) false call.written refused)
 
 -- Words that aren't accepted: nothing is read or written, and no fault is counted.
 abbrev pub BadWordsRow : Ending → Call → Type 0
@@ -155,7 +156,7 @@ abbrev pub Row : Option Command → Ending → Call → Type 0
 Row (Some Run) ending call = RunRow ending call
 Row (Some Check) ending call = CheckRow ending call × (call.new ≡ call.old)
 Row (Some (Demo size)) ending call = DemoRow size ending call
-Row (Some (Judge reasons budget)) ending call = JudgeRow reasons budget ending call × (call.new ≡ call.old)
+Row (Some (Judge wanted budget)) ending call = JudgeRow wanted budget ending call × (call.new ≡ call.old)
 Row None ending call = BadWordsRow ending call × (call.new ≡ call.old)
 
 -- The call ended so: with the bytes that came and those that were written, where they are told.

@@ -7,6 +7,7 @@ ghost use Rattle.command_shell.specs.Top.{code_of};
 
 use cqa_io::Failed;
 use cqa_value::NoMemory;
+use group_text::Wanted;
 
 /// What the words ask for.
 #[derive(Clone, Copy, Debug, PartialEq, Eq)]
@@ -17,9 +18,8 @@ pub enum Command {
     Check,
     /// Run the script of a size, and tell the numbers of the run.
     Demo(u32),
-    /// Judge the groups of lists in the input by searches of at most so many conflicts, and with reasons show a proof of each that
-    /// is certain.
-    Judge { reasons: bool, budget: u32 },
+    /// Say what is wanted of each group of lists in the input, by a budget for each search.
+    Judge { wanted: Wanted, budget: u32 },
 }
 
 /// How the top call ends.

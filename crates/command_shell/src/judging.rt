@@ -10,7 +10,11 @@ use crate::ending::Ending;
 use cqa_io::{Sink, Source};
 use cqa_value::read_int;
 use group_stream::{StreamEnd, judge_stream};
+use group_text::Wanted;
 use std::alloc::Global;
+
+/// The most lists that a search for a least or a greatest value looks at, where no budget is told.
+pub const MOST_WORK: u32 = 10_000_000;
 
 /// The most digits of a budget.
 const MOST_DIGITS: usize = 10;
@@ -43,17 +47,17 @@ fn ending_at(end: StreamEnd) -> Ending
     }
 }
 
-/// Reads groups of lists, and writes the reply to each.
+/// Reads groups of lists, and writes what is wanted of each.
 pub fn judge<S: Source, K: Sink>(
     alloc: Global,
-    reasons: bool,
+    wanted: Wanted,
     budget: u32,
     source: &mut S,
     sink: &mut K,
 ) -> Ending
-    ensures row { (state : State) → Ended (Some (JudgeWord reasons budget)) result (told (S.left source.old) (K.held sink.old) (S.faults source.old) (K.faults sink.old)) (told (S.left source.new) (K.held sink.new) (S.faults source.new) (K.faults sink.new)) state state }
+    ensures row { (state : State) → Ended (Some (JudgeWord wanted budget)) result (told (S.left source.old) (K.held sink.old) (S.faults source.old) (K.faults sink.old)) (told (S.left source.new) (K.held sink.new) (S.faults source.new) (K.faults sink.new)) state state }
     ensures reads { S.faults source.old ≤ S.faults source.new }
     ensures writes { K.faults sink.old ≤ K.faults sink.new }
 {
-    ending_at(judge_stream(alloc, reasons, budget, source, sink))
+    ending_at(judge_stream(alloc, wanted, budget, source, sink))
 }

@@ -9,11 +9,12 @@ ghost use Rattle.command_shell.specs.Top.{code_of, StandFor, AreWordsFor, IsAske
 use crate::demo::{demo, size_of};
 use crate::ending::{Command, Ending, ReadEnd, code};
 use crate::input::read_all;
-use crate::judging::{budget_of, judge};
+use crate::judging::{MOST_WORK, budget_of, judge};
 use crate::pieces::run;
 use crate::session::{CONFLICTS, Session};
 use crate::verdict::write_verdict;
 use cqa_io::{Sink, Source};
+use group_text::Wanted;
 use std::alloc::Global;
 
 /// Reads the input and writes the line on it, as a formula with a log or a certificate.
@@ -47,7 +48,7 @@ fn command_named(word: &str) -> Option<Command>
     }
     if word == "judge" {
         return Some(Command::Judge {
-            reasons: false,
+            wanted: Wanted::Verdicts,
             budget: CONFLICTS,
         });
     }
@@ -70,13 +71,19 @@ fn judge_with(word: &str) -> Option<Command>
 {
     if word == "reasons" {
         return Some(Command::Judge {
-            reasons: true,
+            wanted: Wanted::Reasons,
             budget: CONFLICTS,
+        });
+    }
+    if word == "ranges" {
+        return Some(Command::Judge {
+            wanted: Wanted::Ranges,
+            budget: MOST_WORK,
         });
     }
     match budget_of(word.as_bytes()) {
         Some(budget) => Some(Command::Judge {
-            reasons: false,
+            wanted: Wanted::Verdicts,
             budget,
         }),
         None => None,
@@ -96,20 +103,36 @@ fn command_with(word: &str, second: &str) -> Option<Command>
     None
 }
 
-/// The command that three words are: `judge reasons` and a budget.
+/// The command that `judge`, a word and a budget are.
+fn judge_sized(word: &str, digits: &str) -> Option<Command>
+    ensures { MatchOption result ((command : Command) → StandFor (codes "judge" ∷ word.now ∷ digits.now ∷ []) command → ⊥) (λ command. StandFor (codes "judge" ∷ word.now ∷ digits.now ∷ []) command) }
+{
+    let Some(budget) = budget_of(digits.as_bytes()) else {
+        return None;
+    };
+    if word == "reasons" {
+        return Some(Command::Judge {
+            wanted: Wanted::Reasons,
+            budget,
+        });
+    }
+    if word == "ranges" {
+        return Some(Command::Judge {
+            wanted: Wanted::Ranges,
+            budget,
+        });
+    }
+    None
+}
+
+/// The command that three words are: `judge`, `reasons` or `ranges`, and a budget.
 fn command_of_three(word: &str, second: &str, digits: &str) -> Option<Command>
     ensures { MatchOption result ((command : Command) → StandFor (word.now ∷ second.now ∷ digits.now ∷ []) command → ⊥) (λ command. StandFor (word.now ∷ second.now ∷ digits.now ∷ []) command) }
 {
-    if word != "judge" || second != "reasons" {
+    if word != "judge" {
         return None;
     }
-    match budget_of(digits.as_bytes()) {
-        Some(budget) => Some(Command::Judge {
-            reasons: true,
-            budget,
-        }),
-        None => None,
-    }
+    judge_sized(second, digits)
 }
 
 /// The command that the words are.
@@ -130,7 +153,7 @@ fn command(words: &[String]) -> Option<Command>
 /// words that aren't accepted, 3 and 4 for a fault of the source or the sink, 5 where memory runs out, 6 for an input that
 /// is too long.
 ///
-/// For every list of words and every input, the status and the bytes written are those of a machine that holds its tables as plain lists of rows: each answered ask gives exactly the rows that every repair gives, each once and ascending, each range, whole or by groups, has the ends of its definition, each explanation is true by its own, the rows that stand against a row rule it out, and none of them can be left out, each group of lists from elsewhere that is judged certain has some list whole in every choice of a row of each block, each that is open shows a choice that has none, and each refusal has its named cause and changes nothing, except that a spent search keeps its log.
+/// For every list of words and every input, the status and the bytes written are those of a machine that holds its tables as plain lists of rows: each answered ask gives exactly the rows that every repair gives, each once and ascending, each range, whole or by groups, has the ends of its definition, each explanation is true by its own, the rows that stand against a row rule it out, and none of them can be left out, each group of lists from elsewhere that is judged certain has some list whole in every choice of a row of each block, each that is open shows a choice that has none, each least and each greatest value of such lists with weights is that of all choices and is shown with one that has it, and each refusal has its named cause and changes nothing, except that a spent search keeps its log.
 pub fn run_words<S: Source, K: Sink>(
     alloc: Global,
     words: &[String],
@@ -152,8 +175,8 @@ pub fn run_words<S: Source, K: Sink>(
         Some(Command::Run) => code(run(alloc, session, source, sink)),
         Some(Command::Check) => code(check(alloc, source, sink)),
         Some(Command::Demo(size)) => code(demo(alloc, session, sink, size)),
-        Some(Command::Judge { reasons, budget }) => {
-            code(judge(alloc, reasons, budget, source, sink))
+        Some(Command::Judge { wanted, budget }) => {
+            code(judge(alloc, wanted, budget, source, sink))
         }
     }
 }

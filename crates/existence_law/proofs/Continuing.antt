@@ -5,6 +5,7 @@ use Rattle.std.specs.List.{AllByRecursion, flat_map}
 use Rattle.std.proofs.lemmas.Bool.{eqb-true}
 use Rattle.std.proofs.lemmas.List.Concat.{flat_map-append}
 use Rattle.cnf_form.specs.Lines.{line_of}
+use Rattle.group_text.specs.declared.wanted.Wanted.{Wanted}
 use Rattle.group_text.specs.Groups.{Event, Underway, after, asked, events, left_open, next}
 use Rattle.group_text.specs.Groups.Underway.{Outside}
 use Rattle.group_text.specs.Replies.{Replies}
@@ -65,46 +66,46 @@ cut_later first later done rest more end a b = record {
 
 -- ---- events
 
-after_both : (u : Underway) (ls ms : List (List ℕ)) → after u (ls ++ ms) ≡ after (after u ls) ms
-after_both u [] ms = refl
-after_both u (l ∷ ls) ms = after_both (next u (said l)) ls ms
+after_both : (w : Wanted) (u : Underway) (ls ms : List (List ℕ)) → after w u (ls ++ ms) ≡ after w (after w u ls) ms
+after_both w u [] ms = refl
+after_both w u (l ∷ ls) ms = after_both w (next w u (said l)) ls ms
 
-events_both : (n : ℕ) (u : Underway) (ls ms : List (List ℕ)) → events n u (ls ++ ms) ≡ events n u ls ++ events (n + length ls) (after u ls) ms
-events_both n u [] ms = let e : n ≡ n + 0 = omega arith in ap (λ (k : ℕ). events k u ms) e
-events_both n u (l ∷ ls) ms =
+events_both : (w : Wanted) (n : ℕ) (u : Underway) (ls ms : List (List ℕ)) → events w n u (ls ++ ms) ≡ events w n u ls ++ events w (n + length ls) (after w u ls) ms
+events_both w n u [] ms = let e : n ≡ n + 0 = omega arith in ap (λ (k : ℕ). events w k u ms) e
+events_both w n u (l ∷ ls) ms =
     let e : (n + 1) + length ls ≡ n + length (l ∷ ls) = omega arith in
-    ap (λ (es : List Event). asked n u (said l) ++ es) (events_both (n + 1) (next u (said l)) ls ms ∙ ap (λ (k : ℕ). events (n + 1) (next u (said l)) ls ++ events k (after (next u (said l)) ls) ms) e)
-    ∙ sym (append_assoc (asked n u (said l)) (events (n + 1) (next u (said l)) ls) (events (n + length (l ∷ ls)) (after (next u (said l)) ls) ms))
+    ap (λ (es : List Event). asked w n u (said l) ++ es) (events_both w (n + 1) (next w u (said l)) ls ms ∙ ap (λ (k : ℕ). events w (n + 1) (next w u (said l)) ls ++ events w k (after w (next w u (said l)) ls) ms) e)
+    ∙ sym (append_assoc (asked w n u (said l)) (events w (n + 1) (next w u (said l)) ls) (events w (n + length (l ∷ ls)) (after w (next w u (said l)) ls) ms))
 
 -- what is asked for behind the first lines
-abbrev later_events : Bool → List (List ℕ) → List (List ℕ) → List ℕ → List Event
-later_events true done more end = events (1 + length done) (after Outside done) (more ++ last_line end) ++ left_open (length ((done ++ more) ++ last_line end) + 1) (after Outside ((done ++ more) ++ last_line end))
-later_events false done more end = events (1 + length done) (after Outside done) more
+abbrev later_events : Wanted → Bool → List (List ℕ) → List (List ℕ) → List ℕ → List Event
+later_events w true done more end = events w (1 + length done) (after w Outside done) (more ++ last_line end) ++ left_open (length ((done ++ more) ++ last_line end) + 1) (after w Outside ((done ++ more) ++ last_line end))
+later_events w false done more end = events w (1 + length done) (after w Outside done) more
 
-later_are : (ended : Bool) (done more : List (List ℕ)) (end : List ℕ) → events_of ended (done ++ more) end ≡ events 1 Outside done ++ later_events ended done more end
-later_are true done more end =
+later_are : (w : Wanted) (ended : Bool) (done more : List (List ℕ)) (end : List ℕ) → events_of w ended (done ++ more) end ≡ events w 1 Outside done ++ later_events w ended done more end
+later_are w true done more end =
     let all = (done ++ more) ++ last_line end in
-    let rest = left_open (length all + 1) (after Outside all) in
-    ap (λ (es : List Event). es ++ rest) (ap (events 1 Outside) (append_assoc done more (last_line end)) ∙ events_both 1 Outside done (more ++ last_line end))
-    ∙ append_assoc (events 1 Outside done) (events (1 + length done) (after Outside done) (more ++ last_line end)) rest
-later_are false done more end = events_both 1 Outside done more
+    let rest = left_open (length all + 1) (after w Outside all) in
+    ap (λ (es : List Event). es ++ rest) (ap (events w 1 Outside) (append_assoc done more (last_line end)) ∙ events_both w 1 Outside done (more ++ last_line end))
+    ∙ append_assoc (events w 1 Outside done) (events w (1 + length done) (after w Outside done) (more ++ last_line end)) rest
+later_are w false done more end = events_both w 1 Outside done more
 
-later_have : (reasons : Bool) (budget : ℕ) (ended : Bool) (done more : List (List ℕ)) (end : List ℕ) → HaveReplies reasons budget (later_events ended done more end)
-later_have reasons budget true done more end =
-    both reasons budget (events (1 + length done) (after Outside done) (more ++ last_line end)) (left_open (length ((done ++ more) ++ last_line end) + 1) (after Outside ((done ++ more) ++ last_line end)))
-    (events_have reasons budget (1 + length done) (after Outside done) (more ++ last_line end) (after_fits Outside done tt)) (left_has reasons budget (length ((done ++ more) ++ last_line end) + 1) (after Outside ((done ++ more) ++ last_line end)))
-later_have reasons budget false done more end = events_have reasons budget (1 + length done) (after Outside done) more (after_fits Outside done tt)
+later_have : (w : Wanted) (budget : ℕ) (ended : Bool) (done more : List (List ℕ)) (end : List ℕ) → HaveReplies w budget (later_events w ended done more end)
+later_have w budget true done more end =
+    both w budget (events w (1 + length done) (after w Outside done) (more ++ last_line end)) (left_open (length ((done ++ more) ++ last_line end) + 1) (after w Outside ((done ++ more) ++ last_line end)))
+    (events_have w budget (1 + length done) (after w Outside done) (more ++ last_line end) (after_fits w Outside done tt)) (left_has w budget (length ((done ++ more) ++ last_line end) + 1) (after w Outside ((done ++ more) ++ last_line end)))
+later_have w budget false done more end = events_have w budget (1 + length done) (after w Outside done) more (after_fits w Outside done tt)
 
 -- ---- replies
 
 -- replies to the lines of the first bytes begin those to all
-go_on : (reasons : Bool) (budget : ℕ) (first later written : List ℕ) (ended : Bool) → BeginsReplies reasons budget first false written → BeginsReplies reasons budget (first ++ later) ended written
-go_on reasons budget first later written ended begins = all (cut_of (begins.judges.rest ++ later))
+go_on : (wanted : Wanted) (budget : ℕ) (first later written : List ℕ) (ended : Bool) → BeginsReplies wanted budget first false written → BeginsReplies wanted budget (first ++ later) ended written
+go_on wanted budget first later written ended begins = all (cut_of (begins.judges.rest ++ later))
   where
-    all : Cut (begins.judges.rest ++ later) → BeginsReplies reasons budget (first ++ later) ended written
+    all : Cut (begins.judges.rest ++ later) → BeginsReplies wanted budget (first ++ later) ended written
     all c =
         let done = begins.judges.done in
-        let more = later_have reasons budget ended done c.done c.rest in
+        let more = later_have wanted budget ended done c.done c.rest in
         record {
           all = begins.all ++ more.text;
           refused = begins.refused || more.refused;
@@ -112,15 +113,15 @@ go_on reasons budget first later written ended begins = all (cut_of (begins.judg
             done = done ++ c.done;
             rest = c.rest;
             cut = cut_later first later done begins.judges.rest c.done c.rest begins.judges.cut c.cut;
-            replied = subst (λ (es : List Event). Replies reasons budget es (begins.all ++ more.text) (begins.refused || more.refused)) (sym (later_are ended done c.done c.rest))
-                (replies_both reasons budget (events 1 Outside done) (later_events ended done c.done c.rest) begins.all more.text begins.refused more.refused begins.judges.replied more.replied);
+            replied = subst (λ (es : List Event). Replies wanted budget es (begins.all ++ more.text) (begins.refused || more.refused)) (sym (later_are wanted ended done c.done c.rest))
+                (replies_both wanted budget (events wanted 1 Outside done) (later_events wanted ended done c.done c.rest) begins.all more.text begins.refused more.refused begins.judges.replied more.replied);
           };
           left = begins.left ++ more.text;
           begins = ap (λ (xs : List ℕ). xs ++ more.text) begins.begins ∙ append_assoc written begins.left more.text;
         }
 
-nothing : (reasons : Bool) (budget : ℕ) → BeginsReplies reasons budget [] false []
-nothing reasons budget = record {
+nothing : (wanted : Wanted) (budget : ℕ) → BeginsReplies wanted budget [] false []
+nothing wanted budget = record {
   all = [];
   refused = false;
   judges = record { done = []; rest = []; cut = record { bytes_are = refl; each = tt; rest_is = refl }; replied = record { replies = []; each = tt; text_is = refl; refused_is = refl } };
@@ -129,13 +130,13 @@ nothing reasons budget = record {
 }
 
 pub group_replies_exist : GroupRepliesExist
-group_replies_exist reasons budget bytes ended = let b = go_on reasons budget [] bytes [] ended (nothing reasons budget) in (b.all, b.refused, b.judges)
+group_replies_exist wanted budget bytes ended = let b = go_on wanted budget [] bytes [] ended (nothing wanted budget) in (b.all, b.refused, b.judges)
 
 pub written_begins_replies : WrittenBeginsReplies
-written_begins_replies reasons budget bytes written cut ended whole = subst (λ (xs : List ℕ). BeginsReplies reasons budget xs ended written) (sym cut.bytes_are) (go cut.ended cut.begins cut.whole whole)
+written_begins_replies wanted budget bytes written cut ended whole = subst (λ (xs : List ℕ). BeginsReplies wanted budget xs ended written) (sym cut.bytes_are) (go cut.ended cut.begins cut.whole whole)
   where
-    go : (e : Bool) → BeginsReplies reasons budget cut.first e written → (e ≡ true → (cut.later ≡ []) × ⊤) → (e ≡ true → ended ≡ true) → BeginsReplies reasons budget (cut.first ++ cut.later) ended written
-    go false begins at_end whole = go_on reasons budget cut.first cut.later written ended begins
+    go : (e : Bool) → BeginsReplies wanted budget cut.first e written → (e ≡ true → (cut.later ≡ []) × ⊤) → (e ≡ true → ended ≡ true) → BeginsReplies wanted budget (cut.first ++ cut.later) ended written
+    go false begins at_end whole = go_on wanted budget cut.first cut.later written ended begins
     go true begins at_end whole =
-        subst (λ (x : Bool). BeginsReplies reasons budget (cut.first ++ cut.later) x written) (sym (whole refl))
-        (subst (λ (xs : List ℕ). BeginsReplies reasons budget xs true written) (sym (append-nil cut.first) ∙ ap (λ (xs : List ℕ). cut.first ++ xs) (sym (at_end refl).0)) begins)
+        subst (λ (x : Bool). BeginsReplies wanted budget (cut.first ++ cut.later) x written) (sym (whole refl))
+        (subst (λ (xs : List ℕ). BeginsReplies wanted budget xs true written) (sym (append-nil cut.first) ∙ ap (λ (xs : List ℕ). cut.first ++ xs) (sym (at_end refl).0)) begins)

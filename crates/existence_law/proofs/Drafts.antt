@@ -1,17 +1,22 @@
 -- What the lines of an input put together is a group.
-use Rattle.std.proofs.Common.{◌≡◌, ◌<◌, ◌≤◌, ◌+◌, ◌-◌, ◌==◌, ◌&&◌, ℕ, zero, suc, Bool, true, false, cond, List, [], ◌∷◌, ◌++◌, take, length, Contains, Option, Some, None, Result, Ok, Err, refl, subst, arith}
-use Rattle.std.specs.Prelude.{⊤, nat_lt, slice_index}
+use Rattle.std.proofs.Common.{◌≡◌, ◌<◌, ◌≤◌, ◌+◌, ◌-◌, ◌==◌, ◌&&◌, ℕ, zero, suc, Bool, true, false, cond, List, [], ◌∷◌, ◌++◌, take, length, Contains, Option, Some, None, Result, Ok, Err, refl, sym, subst, arith}
+use Rattle.std.specs.Prelude.{⊤, nat_lt, slice_index, ℤ}
 use Rattle.std.specs.List.{sum}
 use Rattle.std.proofs.lemmas.Bool.Decides.{nat_tests}
 use Rattle.cqa_value.proofs.Words.{mem-nil}
 use Rattle.cnf_form.specs.Lines.{is_comment, tokens}
 use Rattle.cnf_form.specs.Numbers.{unsigned_of}
-use Rattle.block_lists.specs.declared.row.BlockRow.{BlockRow}
-use Rattle.block_lists.specs.Choices.{IsGroup, IsThere}
+use Rattle.block_choices.specs.declared.row.BlockRow.{BlockRow}
+use Rattle.block_choices.specs.Choices.{IsThere}
+use Rattle.block_lists.specs.Groups.{IsGroup}
+use Rattle.choice_values.specs.Values.{Weighted}
+use Rattle.std.proofs.lemmas.List.{length-map, map_push}
 use Rattle.block_lists.proofs.Groups.{group-begun, group-more}
 use Rattle.group_text.specs.declared.fault.Fault.{Fault}
 use Rattle.group_text.specs.declared.fault.Fault.TheVariants.{BadLine, BadSize, LongLine, ManyLists, ManyNames, ManyRows, UnknownRow}
-use Rattle.group_text.specs.Groups.{Draft, Underway, after, begun, list_of, named, next, with_list}
+use Rattle.group_text.specs.declared.wanted.Wanted.{Wanted}
+use Rattle.group_text.specs.Groups.{Draft, Underway, after, begun, list_of, named, next, told_list, with_list}
+use Rattle.group_text.specs.Weights.{before_weight, from_weight, names_in, weighs, weight_of}
 use Rattle.group_text.specs.Groups.Underway.{Outside, Within, Passing}
 use Rattle.group_text.specs.Names.{is_there, numbers_of, row_at, row_by, row_of, rows_after}
 use Rattle.group_text.specs.Saying.{Said, begins_group, ends, is_word, said, said_by, said_within}
@@ -96,18 +101,27 @@ rows_fit sizes named before (t ∷ ts) are = on_going (AreAllThere sizes) (row_o
 
 abbrev pub IsFitting : Underway → Type 0
 IsFitting Outside = ⊤
-IsFitting (Within d) = IsGroup d.sizes d.lists
+IsFitting (Within d) = IsGroup d.sizes (names_in d.lists)
 IsFitting Passing = ⊤
 
-list_fits : (d : Draft) (ts : List (List ℕ)) → IsGroup d.sizes d.lists → IsFitting (with_list d (list_of d ts))
-list_fits d ts group = go (nat_lt (length d.lists) 1000000) refl
+told_fits : (sizes : List ℕ) (named : ℕ) (rows weight : List (List ℕ)) → OnOk (λ (list : Weighted). AreAllThere sizes list.names) (told_list sizes named rows weight)
+told_fits sizes named rows weight = on_going (λ (list : Weighted). AreAllThere sizes list.names) (rows_after sizes named [] rows) (λ (names : List BlockRow). going_on (weight_of weight) (λ (w : ℤ). Ok (record { weight = w; names = names }))) (λ names e.
+    on_going (λ (list : Weighted). AreAllThere sizes list.names) (weight_of weight) (λ (w : ℤ). Ok (record { weight = w; names = names })) (λ w f. subst (OnOk (AreAllThere sizes)) e (rows_fit sizes named [] rows (λ x m. absurd (mem-nil x m)))))
+
+list_fits : (wanted : Wanted) (d : Draft) (ts : List (List ℕ)) → IsGroup d.sizes (names_in d.lists) → IsFitting (with_list d (list_of wanted d ts))
+list_fits wanted d ts group = go (nat_lt (length d.lists) 1000000) refl
   where
-    joined : length d.lists < 1000000 → (r : Result (List BlockRow) Fault) → OnOk (AreAllThere d.sizes) r → IsFitting (with_list d r)
-    joined l (Ok names) there = group-more d.sizes d.lists names group l there
+    told : Result Weighted Fault
+    told = told_list d.sizes (named d) (before_weight (weighs wanted) ts) (from_weight (weighs wanted) ts)
+
+    joined : length d.lists < 1000000 → (r : Result Weighted Fault) → OnOk (λ (list : Weighted). AreAllThere d.sizes list.names) r → IsFitting (with_list d r)
+    joined l (Ok list) there =
+        let short = length-map d.lists (λ (x : Weighted). x.names) in
+        subst (IsGroup d.sizes) (sym (map_push (λ (x : Weighted). x.names) d.lists list)) (group-more d.sizes (names_in d.lists) list.names group (omega (arith, short, l)) there)
     joined l (Err fault) there = tt
 
-    go : (few : Bool) → nat_lt (length d.lists) 1000000 ≡ few → IsFitting (with_list d (cond few (rows_after d.sizes (named d) [] ts) (Err ManyLists)))
-    go true i = joined (below (length d.lists) 1000000 i) (rows_after d.sizes (named d) [] ts) (rows_fit d.sizes (named d) [] ts (λ x m. absurd (mem-nil x m)))
+    go : (few : Bool) → nat_lt (length d.lists) 1000000 ≡ few → IsFitting (with_list d (cond few told (Err ManyLists)))
+    go true i = joined (below (length d.lists) 1000000 i) told (told_fits d.sizes (named d) (before_weight (weighs wanted) ts) (from_weight (weighs wanted) ts))
     go false i = tt
 
 abbrev HasSizes : Said → Type 0
@@ -143,20 +157,20 @@ begun_fits : (r : Result (List ℕ) Fault) → OnOk AreSizes r → IsFitting (be
 begun_fits (Ok sizes) are = group-begun sizes are.some are.few
 begun_fits (Err fault) are = tt
 
-says_fits : (u : Underway) (s : Said) → IsFitting u → HasSizes s → IsFitting (next u s)
-says_fits u Skipped f h = f
-says_fits u (Begins r) f h = begun_fits r h
-says_fits Outside (Lists ts) f h = tt
-says_fits (Within d) (Lists ts) f h = list_fits d ts f
-says_fits Passing (Lists ts) f h = tt
-says_fits Outside Ends f h = tt
-says_fits (Within d) Ends f h = tt
-says_fits Passing Ends f h = tt
-says_fits u (Faulty fault) f h = tt
+says_fits : (wanted : Wanted) (u : Underway) (s : Said) → IsFitting u → HasSizes s → IsFitting (next wanted u s)
+says_fits wanted u Skipped f h = f
+says_fits wanted u (Begins r) f h = begun_fits r h
+says_fits wanted Outside (Lists ts) f h = tt
+says_fits wanted (Within d) (Lists ts) f h = list_fits wanted d ts f
+says_fits wanted Passing (Lists ts) f h = tt
+says_fits wanted Outside Ends f h = tt
+says_fits wanted (Within d) Ends f h = tt
+says_fits wanted Passing Ends f h = tt
+says_fits wanted u (Faulty fault) f h = tt
 
-pub next_fits : (u : Underway) (l : List ℕ) → IsFitting u → IsFitting (next u (said l))
-next_fits u l f = says_fits u (said l) f (said_fits l)
+pub next_fits : (wanted : Wanted) (u : Underway) (l : List ℕ) → IsFitting u → IsFitting (next wanted u (said l))
+next_fits wanted u l f = says_fits wanted u (said l) f (said_fits l)
 
-pub after_fits : (u : Underway) (ls : List (List ℕ)) → IsFitting u → IsFitting (after u ls)
-after_fits u [] f = f
-after_fits u (l ∷ ls) f = after_fits (next u (said l)) ls (next_fits u l f)
+pub after_fits : (wanted : Wanted) (u : Underway) (ls : List (List ℕ)) → IsFitting u → IsFitting (after wanted u ls)
+after_fits wanted u [] f = f
+after_fits wanted u (l ∷ ls) f = after_fits wanted (next wanted u (said l)) ls (next_fits wanted u l f)

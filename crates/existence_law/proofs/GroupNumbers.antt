@@ -5,8 +5,8 @@ use native.Mathlib.Decide.{ℕ_discrete}
 use Rattle.cqa_model.proofs.Classic.{dec_some}
 use Rattle.cqa_model.proofs.Zips.{zip-choose}
 use Rattle.cnf_form.specs.declared.formula.Cnf.{Cnf}
-use Rattle.block_lists.specs.declared.row.BlockRow.{BlockRow}
-use Rattle.block_lists.specs.Choices.{AreThere, IsThere}
+use Rattle.block_choices.specs.declared.row.BlockRow.{BlockRow}
+use Rattle.block_choices.specs.Choices.{AreThere, IsThere}
 use Rattle.block_lists.specs.Formulas.{AreNumbersIn, IsGroupFormula, group_clauses, number}
 use Rattle.block_lists.proofs.Bases.{based, bases-within}
 use Rattle.existence_law.proofs.Numbering.{numbers_with}

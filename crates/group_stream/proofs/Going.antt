@@ -6,6 +6,7 @@ use Rattle.cqa_io.specs.Causes.{Rose}
 use Rattle.group_stream.specs.declared.ending.Stop.{Stop}
 use Rattle.group_stream.specs.declared.ending.Stop.TheVariants as stops
 use Rattle.std.proofs.KnownBytes.{Appends-nil, Appends-trans}
+use Rattle.group_text.specs.declared.wanted.Wanted.{Wanted}
 use Rattle.group_text.specs.Groups.{events}
 use Rattle.group_text.specs.Groups.Underway.{Outside}
 use Rattle.group_text.specs.Replies.{Replies}
@@ -14,12 +15,12 @@ use Rattle.group_stream.specs.Judges.{CutShort, Judges}
 use Rattle.group_stream.specs.Steps.{Breaks, BreaksAtEnd, EndRow, Ends, Gathered, Gathers, GoesOn, PieceRow, Stands}
 
 -- what stands between two lines is what is judged of bytes that haven't ended
-pub judged_so_far : (reasons : Bool) (budget : ℕ) (came written : List ℕ) (g : Gathered) → Stands reasons budget came written g → Judges reasons budget came false (written ++ g.out) g.refused
-judged_so_far reasons budget came written g s = record { done = s.done; rest = s.rest; cut = s.cut; replied = s.replied }
+pub judged_so_far : (wanted : Wanted) (budget : ℕ) (came written : List ℕ) (g : Gathered) → Stands wanted budget came written g → Judges wanted budget came false (written ++ g.out) g.refused
+judged_so_far wanted budget came written g s = record { done = s.done; rest = s.rest; cut = s.cut; replied = s.replied }
 
 -- what was written begins it, whatever bytes come later
-pub cut_here : (reasons : Bool) (budget : ℕ) (came later : List ℕ) (at_end : Type 0) (written : List ℕ) (g : Gathered) (more left : List ℕ) → Stands reasons budget came written g → g.out ≡ more ++ left → CutShort reasons budget (came ++ later) at_end (written ++ more)
-cut_here reasons budget came later at_end written g more left s e = record {
+pub cut_here : (wanted : Wanted) (budget : ℕ) (came later : List ℕ) (at_end : Type 0) (written : List ℕ) (g : Gathered) (more left : List ℕ) → Stands wanted budget came written g → g.out ≡ more ++ left → CutShort wanted budget (came ++ later) at_end (written ++ more)
+cut_here wanted budget came later at_end written g more left s e = record {
   first = came;
   later = later;
   bytes_are = refl;
@@ -28,15 +29,15 @@ cut_here reasons budget came later at_end written g more left s e = record {
   begins = record {
     all = written ++ g.out;
     refused = g.refused;
-    judges = judged_so_far reasons budget came written g s;
+    judges = judged_so_far wanted budget came written g s;
     left = left;
     begins = ap (λ (xs : List ℕ). written ++ xs) e ∙ sym (append_assoc written more left);
   };
 }
 
 -- what is at the end is so for a reason
-pub cut_for : (reasons : Bool) (budget : ℕ) (bytes : List ℕ) (a b : Type 0) (written : List ℕ) → (a → b) → CutShort reasons budget bytes a written → CutShort reasons budget bytes b written
-cut_for reasons budget bytes a b written so cut = record {
+pub cut_for : (wanted : Wanted) (budget : ℕ) (bytes : List ℕ) (a b : Type 0) (written : List ℕ) → (a → b) → CutShort wanted budget bytes a written → CutShort wanted budget bytes b written
+cut_for wanted budget bytes a b written so cut = record {
   first = cut.first;
   later = cut.later;
   bytes_are = cut.bytes_are;
@@ -47,15 +48,15 @@ cut_for reasons budget bytes a b written so cut = record {
 
 -- memory is refused
 pub breaks_here : (g : Gathered) (held : Option (List ℕ)) (bytes : List ℕ) → Breaks g held held bytes
-breaks_here g held bytes = λ reasons budget came written later s. ([], Appends-nil held, cut_here reasons budget came (bytes ++ later) ⊥ written g [] g.out s refl)
+breaks_here g held bytes = λ wanted budget came written later s. ([], Appends-nil held, cut_here wanted budget came (bytes ++ later) ⊥ written g [] g.out s refl)
 
 -- a write fails
 pub hand_breaks : (g : Gathered) (old new : Option (List ℕ)) (n : ℕ) → Appends old new (take n g.out) → Breaks g old new []
-hand_breaks g old new n put = λ reasons budget came written later s. (take n g.out, put, cut_here reasons budget came later ⊥ written g (take n g.out) (drop n g.out) s (sym (take-append-drop n g.out)))
+hand_breaks g old new n put = λ wanted budget came written later s. (take n g.out, put, cut_here wanted budget came later ⊥ written g (take n g.out) (drop n g.out) s (sym (take-append-drop n g.out)))
 
 -- all is handed on
 pub handed : (g : Gathered) (old new : Option (List ℕ)) → Appends old new g.out → GoesOn g (record g { out = [] }) old new []
-handed g old new put = λ reasons budget came written s. (
+handed g old new put = λ wanted budget came written s. (
   g.out,
   put,
   record {
@@ -64,41 +65,41 @@ handed g old new put = λ reasons budget came written s. (
     cut = subst (λ (xs : List ℕ). AreCut xs s.done s.rest) (sym (append-nil came)) s.cut;
     held_is = s.held_is;
     machine_is = s.machine_is;
-    replied = subst (λ (xs : List ℕ). Replies reasons budget (events 1 Outside s.done) xs g.refused) (sym (append-nil (written ++ g.out))) s.replied;
+    replied = subst (λ (xs : List ℕ). Replies wanted budget (events wanted 1 Outside s.done) xs g.refused) (sym (append-nil (written ++ g.out))) s.replied;
   },
 )
 
 -- nothing is handed on
 pub gathers_goes : (a b : Gathered) (held : Option (List ℕ)) (bytes : List ℕ) → Gathers a b bytes → GoesOn a b held held bytes
-gathers_goes a b held bytes gathers = λ reasons budget came written s.
-    ([], Appends-nil held, subst (λ (xs : List ℕ). Stands reasons budget (came ++ bytes) xs b) (sym (append-nil written)) (gathers reasons budget came written s))
+gathers_goes a b held bytes gathers = λ wanted budget came written s.
+    ([], Appends-nil held, subst (λ (xs : List ℕ). Stands wanted budget (came ++ bytes) xs b) (sym (append-nil written)) (gathers wanted budget came written s))
 
 pub goes_nil : (g : Gathered) (held : Option (List ℕ)) → GoesOn g g held held []
-goes_nil g held = gathers_goes g g held [] (λ reasons budget came written s. subst (λ (xs : List ℕ). Stands reasons budget xs written g) (sym (append-nil came)) s)
+goes_nil g held = gathers_goes g g held [] (λ wanted budget came written s. subst (λ (xs : List ℕ). Stands wanted budget xs written g) (sym (append-nil came)) s)
 
 pub goes_goes : (a b c : Gathered) (h i j : Option (List ℕ)) (xs ys : List ℕ) → GoesOn a b h i xs → GoesOn b c i j ys → GoesOn a c h j (xs ++ ys)
-goes_goes a b c h i j xs ys first second = λ reasons budget came written s.
-    let p = first reasons budget came written s in
-    let q = second reasons budget (came ++ xs) (written ++ p.0) p.2 in
-    (p.0 ++ q.0, Appends-trans h i j p.0 q.0 p.1 q.1, subst (λ (w : List ℕ). Stands reasons budget (came ++ (xs ++ ys)) w c) (append_assoc written p.0 q.0) (subst (λ (b' : List ℕ). Stands reasons budget b' ((written ++ p.0) ++ q.0) c) (append_assoc came xs ys) q.2))
+goes_goes a b c h i j xs ys first second = λ wanted budget came written s.
+    let p = first wanted budget came written s in
+    let q = second wanted budget (came ++ xs) (written ++ p.0) p.2 in
+    (p.0 ++ q.0, Appends-trans h i j p.0 q.0 p.1 q.1, subst (λ (w : List ℕ). Stands wanted budget (came ++ (xs ++ ys)) w c) (append_assoc written p.0 q.0) (subst (λ (b' : List ℕ). Stands wanted budget b' ((written ++ p.0) ++ q.0) c) (append_assoc came xs ys) q.2))
 
 pub goes_breaks : (a b : Gathered) (h i j : Option (List ℕ)) (xs ys : List ℕ) → GoesOn a b h i xs → Breaks b i j ys → Breaks a h j (xs ++ ys)
-goes_breaks a b h i j xs ys first second = λ reasons budget came written later s.
-    let p = first reasons budget came written s in
-    let q = second reasons budget (came ++ xs) (written ++ p.0) later p.2 in
+goes_breaks a b h i j xs ys first second = λ wanted budget came written later s.
+    let p = first wanted budget came written s in
+    let q = second wanted budget (came ++ xs) (written ++ p.0) later p.2 in
     let bytes : (came ++ xs) ++ (ys ++ later) ≡ came ++ ((xs ++ ys) ++ later) = append_assoc came xs (ys ++ later) ∙ ap (λ (zs : List ℕ). came ++ zs) (sym (append_assoc xs ys later)) in
-    (p.0 ++ q.0, Appends-trans h i j p.0 q.0 p.1 q.1, subst (λ (w : List ℕ). CutShort reasons budget (came ++ ((xs ++ ys) ++ later)) ⊥ w) (append_assoc written p.0 q.0) (subst (λ (zs : List ℕ). CutShort reasons budget zs ⊥ ((written ++ p.0) ++ q.0)) bytes q.2))
+    (p.0 ++ q.0, Appends-trans h i j p.0 q.0 p.1 q.1, subst (λ (w : List ℕ). CutShort wanted budget (came ++ ((xs ++ ys) ++ later)) ⊥ w) (append_assoc written p.0 q.0) (subst (λ (zs : List ℕ). CutShort wanted budget zs ⊥ ((written ++ p.0) ++ q.0)) bytes q.2))
 
 -- more bytes come that nobody looks at
 pub breaks_more : (a : Gathered) (h i : Option (List ℕ)) (xs ys : List ℕ) → Breaks a h i xs → Breaks a h i (xs ++ ys)
-breaks_more a h i xs ys breaks = λ reasons budget came written later s.
-    let q = breaks reasons budget came written (ys ++ later) s in
-    (q.0, q.1, subst (λ (zs : List ℕ). CutShort reasons budget zs ⊥ (written ++ q.0)) (ap (λ (zs : List ℕ). came ++ zs) (sym (append_assoc xs ys later))) q.2)
+breaks_more a h i xs ys breaks = λ wanted budget came written later s.
+    let q = breaks wanted budget came written (ys ++ later) s in
+    (q.0, q.1, subst (λ (zs : List ℕ). CutShort wanted budget zs ⊥ (written ++ q.0)) (ap (λ (zs : List ℕ). came ++ zs) (sym (append_assoc xs ys later))) q.2)
 
 -- ---- the end of the input
 
-cut_at_end : (reasons : Bool) (budget : ℕ) (came written out : List ℕ) (refused : Bool) (n : ℕ) → Judges reasons budget came true (written ++ out) refused → CutShort reasons budget came ⊤ (written ++ take n out)
-cut_at_end reasons budget came written out refused n judges = record {
+cut_at_end : (wanted : Wanted) (budget : ℕ) (came written out : List ℕ) (refused : Bool) (n : ℕ) → Judges wanted budget came true (written ++ out) refused → CutShort wanted budget came ⊤ (written ++ take n out)
+cut_at_end wanted budget came written out refused n judges = record {
   first = came;
   later = [];
   bytes_are = sym (append-nil came);
@@ -114,18 +115,18 @@ cut_at_end reasons budget came written out refused n judges = record {
 }
 
 -- all is handed on
-pub end_handed : (old new : Gathered) (h i : Option (List ℕ)) → Ends old new → Appends h i new.out → (reasons : Bool) (budget : ℕ) (came written : List ℕ) → Stands reasons budget came written old
-    → (more : List ℕ) × Appends h i more × Judges reasons budget came true (written ++ more) new.refused
-end_handed old new h i ends put = λ reasons budget came written s. (new.out, put, ends reasons budget came written s)
+pub end_handed : (old new : Gathered) (h i : Option (List ℕ)) → Ends old new → Appends h i new.out → (wanted : Wanted) (budget : ℕ) (came written : List ℕ) → Stands wanted budget came written old
+    → (more : List ℕ) × Appends h i more × Judges wanted budget came true (written ++ more) new.refused
+end_handed old new h i ends put = λ wanted budget came written s. (new.out, put, ends wanted budget came written s)
 
 -- a write fails
 pub end_breaks : (old new : Gathered) (h i : Option (List ℕ)) (n : ℕ) → Ends old new → Appends h i (take n new.out) → BreaksAtEnd old h i
-end_breaks old new h i n ends put = λ reasons budget came written s. (take n new.out, put, cut_at_end reasons budget came written new.out new.refused n (ends reasons budget came written s))
+end_breaks old new h i n ends put = λ wanted budget came written s. (take n new.out, put, cut_at_end wanted budget came written new.out new.refused n (ends wanted budget came written s))
 
 -- memory is refused
 pub end_breaks_here : (g : Gathered) (held : Option (List ℕ)) → BreaksAtEnd g held held
-end_breaks_here g held = λ reasons budget came written s.
-    ([], Appends-nil held, subst (λ (zs : List ℕ). CutShort reasons budget zs ⊤ (written ++ [])) (append-nil came) (cut_here reasons budget came [] ⊤ written g [] g.out s refl))
+end_breaks_here g held = λ wanted budget came written s.
+    ([], Appends-nil held, subst (λ (zs : List ℕ). CutShort wanted budget zs ⊤ (written ++ [])) (append-nil came) (cut_here wanted budget came [] ⊤ written g [] g.out s refl))
 
 -- ---- rows
 

@@ -9,7 +9,7 @@ ghost use Rattle.group_stream.specs.Steps.{Closes, EndRow, Ends, Gathers, Judges
 use crate::ending::Stop;
 use cqa_io::{Sink, write_all};
 use cqa_value::NoMemory;
-use group_text::{LONGEST_LINE, Machine};
+use group_text::{LONGEST_LINE, Machine, Wanted};
 use std::alloc::Global;
 use std::marker::Model;
 
@@ -61,15 +61,14 @@ fn cut_line(text: &[u8]) -> Option<(&[u8], &[u8])>
 }
 
 impl Gathering {
-    /// A machine before the first line. It judges by searches of at most `budget` conflicts, and with reasons it shows a proof of
-    /// each group that is certain.
-    pub fn new(alloc: Global, reasons: bool, budget: u32) -> Gathering
-        ensures stands { Stands reasons budget [] [] result }
+    /// A machine before the first line, for what is wanted of each group, with a budget for each search.
+    pub fn new(alloc: Global, wanted: Wanted, budget: u32) -> Gathering
+        ensures stands { Stands wanted budget [] [] result }
         ensures count { result.machine.number ≡ 0 }
         ensures none { result.out ≡ [] }
     {
         Gathering {
-            machine: Machine::new(alloc, reasons, budget),
+            machine: Machine::new(alloc, wanted, budget),
             held: Vec::new(alloc),
             out: Vec::new(alloc),
             refused: false,

@@ -1,5 +1,6 @@
 -- A machine that stands between two lines.
 use Rattle.std.specs.Prelude.{◌≡◌, ℕ, ◌+◌, Bool, List}
+use Rattle.group_text.specs.declared.wanted.Wanted.{Wanted}
 use Rattle.group_text.specs.declared.machine.Place.{Place}
 use Rattle.group_text.specs.declared.machine.Place.TheVariants as place
 use Rattle.group_text.specs.Groups.{Draft, Underway, asked, next}
@@ -7,9 +8,9 @@ use Rattle.group_text.specs.Groups.Underway.{Outside, Within, Passing}
 use Rattle.group_text.specs.Replies.{Appends}
 use Rattle.group_text.specs.Saying.{Said}
 
--- whether reasons are shown, the budget of a search, how many lines have come, and what is under way
+-- what is said of groups, the budget of a search, how many lines have come, and what is under way
 pub record Standing : Type 0 where
-  pub reasons : Bool
+  pub wanted : Wanted
   pub budget : ℕ
   pub number : ℕ
   pub underway : Underway
@@ -25,4 +26,4 @@ numbered m = record m { number = m.number + 1 }
 
 -- A line says something: the machine goes on, and what it replies is appended.
 abbrev pub Steps : Said → Standing → Standing → Bool → List ℕ → List ℕ → Type 0
-Steps s m new refused old_text new_text = (new ≡ record m { underway = next m.underway s }) × Appends m.reasons m.budget (asked m.number m.underway s) refused old_text new_text
+Steps s m new refused old_text new_text = (new ≡ record m { underway = next m.wanted m.underway s }) × Appends m.wanted m.budget (asked m.wanted m.number m.underway s) refused old_text new_text

@@ -23,8 +23,12 @@ pub enum Fault {
     ManyNames,
     /// The group has no such block, or no such row in it.
     UnknownRow,
+    /// Behind the rows of a list stands no `=` with one integer of 64 bits.
+    BadWeight,
     /// The search for a group used up so many conflicts.
     Spent(u32),
+    /// The search for a group's least and greatest value did so much work, in lists that it looked at.
+    Overworked(u32),
     /// A log was found that isn't verified as it is written.
     Unverified,
 }

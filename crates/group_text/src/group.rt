@@ -3,14 +3,17 @@
 ghost use Rattle.std.specs.Prelude.{◌≡◌, ◌++◌, ◌∷◌, [], Err, IfOk, MatchResult, Ok};
 ghost use Rattle.block_lists.specs.Judging.{IsJudged, IsProved};
 ghost use Rattle.cnf_form.specs.Lines.{line_of, tokens};
+ghost use Rattle.choice_values.specs.Values.{IsGreatest, IsLeast, Weighted};
 ghost use Rattle.group_text.specs.Groups.{list_of};
+ghost use Rattle.group_text.specs.Weights.{names_in};
 ghost use Rattle.group_text.specs.Sizes.{sizes_of};
 
-use crate::Fault;
-use crate::rows::read_rows;
 use crate::sizes::read_sizes;
-use block_choices::{BlockRow, Lists};
+use crate::weights::read_list;
+use crate::{Fault, Wanted};
+use block_choices::BlockRow;
 use block_lists::{Judged, MOST_GROUP_LISTS, Proved, Room, judge, prove};
+use choice_values::{Best, WeightedLists, greatest, least};
 use cqa_value::NoMemory;
 use std::alloc::Global;
 use std::marker::Model;
@@ -19,7 +22,7 @@ use std::marker::Model;
 #[derive(Drop)]
 pub struct Group {
     sizes: Vec<u32>,
-    lists: Lists,
+    lists: WeightedLists,
     named: usize,
 }
 
@@ -41,7 +44,7 @@ impl Group {
     {
         Group {
             sizes: Vec::new(alloc),
-            lists: Lists::new(alloc),
+            lists: WeightedLists::new(alloc),
             named: 0,
         }
     }
@@ -82,34 +85,42 @@ impl Group {
     /// `NoMemory` where memory is refused.
     pub fn add(
         &mut self,
+        wanted: Wanted,
         line: &[u8],
         rows: &mut Vec<BlockRow>,
     ) -> Result<Result<(), Fault>, NoMemory>
         ensures { IfOk result (λ read. MatchResult read
-            (λ _. (list_of self.old (tokens (line_of line.now)) ≡ Ok rows.new.items) × (self.new ≡ record self.old { lists = self.old.lists ++ rows.new.items ∷ [] }))
-            (λ fault. list_of self.old (tokens (line_of line.now)) ≡ Err fault)) }
+            (λ _. (list : Weighted) × (list_of wanted self.old (tokens (line_of line.now)) ≡ Ok list) × (self.new ≡ record self.old { lists = self.old.lists ++ list ∷ [] }))
+            (λ fault. list_of wanted self.old (tokens (line_of line.now)) ≡ Err fault)) }
     {
         if self.lists.len() >= MOST_GROUP_LISTS {
             return Ok(Err(Fault::ManyLists));
         }
-        match read_rows(self.sizes.as_slice(), self.named, line, rows)? {
+        match read_list(wanted, self.sizes.as_slice(), self.named, line, rows)? {
             Err(fault) => Ok(Err(fault)),
-            Ok(()) => {
-                self.lists.add(rows.as_slice())?;
+            Ok(weight) => {
+                self.lists.add(weight as i128, rows.as_slice())?;
                 self.named += rows.len();
                 Ok(Ok(()))
             }
         }
     }
+
     /// Whether each choice of a row of each block holds a list whole, or a choice that holds none, which is left in the room.
     ///
     /// # Errors
     ///
     /// `NoMemory` where memory is refused.
     pub fn judge(&self, alloc: Global, budget: u32, room: &mut Room) -> Result<Judged, NoMemory>
-        ensures { IfOk result (IsJudged self.now.sizes self.now.lists budget room.new.choice.items) }
+        ensures { IfOk result (IsJudged self.now.sizes (names_in self.now.lists) budget room.new.choice.items) }
     {
-        judge(alloc, self.sizes.as_slice(), &self.lists, budget, room)
+        judge(
+            alloc,
+            self.sizes.as_slice(),
+            self.lists.lists(),
+            budget,
+            room,
+        )
     }
 
     /// The same, with a refutation.
@@ -118,8 +129,36 @@ impl Group {
     ///
     /// `NoMemory` where memory is refused.
     pub fn prove(&self, alloc: Global, budget: u32, room: &mut Room) -> Result<Proved, NoMemory>
-        ensures { IfOk result (IsProved self.now.sizes self.now.lists budget room.new.choice.items) }
+        ensures { IfOk result (IsProved self.now.sizes (names_in self.now.lists) budget room.new.choice.items) }
     {
-        prove(alloc, self.sizes.as_slice(), &self.lists, budget, room)
+        prove(
+            alloc,
+            self.sizes.as_slice(),
+            self.lists.lists(),
+            budget,
+            room,
+        )
+    }
+
+    /// A choice of the least value.
+    ///
+    /// # Errors
+    ///
+    /// `Spent` where a look at so many lists doesn't do, and `NoMemory` where memory is refused.
+    pub fn least(&self, alloc: Global, budget: u32) -> Result<Best, choice_values::Fault>
+        ensures { IfOk result (IsLeast self.now.sizes self.now.lists) }
+    {
+        least(alloc, self.sizes.as_slice(), &self.lists, budget as u64)
+    }
+
+    /// A choice of the greatest value.
+    ///
+    /// # Errors
+    ///
+    /// `Spent` where a look at so many lists doesn't do, and `NoMemory` where memory is refused.
+    pub fn greatest(&self, alloc: Global, budget: u32) -> Result<Best, choice_values::Fault>
+        ensures { IfOk result (IsGreatest self.now.sizes self.now.lists) }
+    {
+        greatest(alloc, self.sizes.as_slice(), &self.lists, budget as u64)
     }
 }

@@ -3,12 +3,14 @@
 ghost use Rattle.std.specs.Prelude.{◌≡◌, ◌↔◌, ◌∷◌, [], false, true, IfOk};
 ghost use Rattle.proof_check.specs.Verdicts.{Checks};
 ghost use Rattle.proof_check.specs.declared.reply.ProofReply.TheVariants.{Verified};
+ghost use Rattle.group_text.specs.declared.wanted.Wanted.TheVariants.{Reasons, Verdicts};
 ghost use Rattle.group_text.specs.Groups.Event.{Judge};
 ghost use Rattle.group_text.specs.Replies.{Appends, IsShown};
 
-use crate::Fault;
 use crate::group::Group;
+use crate::ranging::reply_range;
 use crate::reply::{append_open, append_refused, certain_text};
+use crate::{Fault, Wanted};
 use block_lists::{Judged, Proved, Room};
 use cnf_form::{Cnf, Log};
 use cqa_value::NoMemory;
@@ -20,7 +22,7 @@ use std::alloc::Global;
 /// # Errors
 ///
 /// `NoMemory` where memory is refused.
-pub fn reply_judged(
+fn reply_judged(
     alloc: Global,
     group: &Group,
     budget: u32,
@@ -28,7 +30,7 @@ pub fn reply_judged(
     room: &mut Room,
     out: &mut Vec<u8>,
 ) -> Result<bool, NoMemory>
-    ensures { IfOk result (λ refused. Appends false budget (Judge line group.now ∷ []) refused out.old.items out.new.items) }
+    ensures { IfOk result (λ refused. Appends Verdicts budget (Judge line group.now ∷ []) refused out.old.items out.new.items) }
 {
     match group.judge(alloc, budget, room)? {
         Judged::Certain => {
@@ -79,7 +81,7 @@ fn reply_refuted(
 /// # Errors
 ///
 /// `NoMemory` where memory is refused.
-pub fn reply_proved(
+fn reply_proved(
     alloc: Global,
     group: &Group,
     budget: u32,
@@ -87,7 +89,7 @@ pub fn reply_proved(
     room: &mut Room,
     out: &mut Vec<u8>,
 ) -> Result<bool, NoMemory>
-    ensures { IfOk result (λ refused. Appends true budget (Judge line group.now ∷ []) refused out.old.items out.new.items) }
+    ensures { IfOk result (λ refused. Appends Reasons budget (Judge line group.now ∷ []) refused out.old.items out.new.items) }
 {
     match group.prove(alloc, budget, room)? {
         Proved::Refuted { cnf, log } => {
@@ -104,5 +106,28 @@ pub fn reply_proved(
             append_refused(line, Fault::Spent(budget), out)?;
             Ok(true)
         }
+    }
+}
+
+/// Appends what is wanted of a group, and says whether it is a refusal, of the line of this number.
+///
+/// # Errors
+///
+/// `NoMemory` where memory is refused.
+pub fn reply_wanted(
+    alloc: Global,
+    wanted: Wanted,
+    group: &Group,
+    budget: u32,
+    line: u64,
+    room: &mut Room,
+    out: &mut Vec<u8>,
+) -> Result<bool, NoMemory>
+    ensures { IfOk result (λ refused. Appends wanted budget (Judge line group.now ∷ []) refused out.old.items out.new.items) }
+{
+    match wanted {
+        Wanted::Verdicts => reply_judged(alloc, group, budget, line, room, out),
+        Wanted::Reasons => reply_proved(alloc, group, budget, line, room, out),
+        Wanted::Ranges => reply_range(alloc, group, budget, line, out),
     }
 }

@@ -12,11 +12,11 @@ ghost use Rattle.group_text.specs.Saying.{said};
 ghost use Rattle.group_text.specs.Saying.Said.{Begins, Lists, Ends, Faulty};
 ghost use Rattle.group_text.specs.Sizes.{sizes_of};
 
-use crate::Fault;
 use crate::group::Group;
-use crate::judging::{reply_judged, reply_proved};
+use crate::judging::reply_wanted;
 use crate::reading::{Saying, read_line};
 use crate::reply::append_refused;
+use crate::{Fault, Wanted};
 use block_choices::BlockRow;
 use block_lists::Room;
 use cqa_value::NoMemory;
@@ -38,7 +38,7 @@ pub enum Place {
 /// for each group.
 #[derive(Drop)]
 pub struct Machine {
-    reasons: bool,
+    wanted: Wanted,
     budget: u32,
     number: u64,
     place: Place,
@@ -52,17 +52,17 @@ impl Model for Machine {
 
     ghost Value = { Standing };
 
-    ghost view = { λ m. record { reasons = m.reasons; budget = m.budget; number = m.number; underway = underway_at m.place m.group } };
+    ghost view = { λ m. record { wanted = m.wanted; budget = m.budget; number = m.number; underway = underway_at m.place m.group } };
 }
 
 impl Machine {
-    /// A machine before the first line. It judges by searches of at most `budget` conflicts, and with reasons it shows a proof of
-    /// each group that is certain.
-    pub fn new(alloc: Global, reasons: bool, budget: u32) -> Machine
-        ensures { result ≡ record { reasons = reasons; budget = budget; number = 0; underway = Outside } }
+    /// A machine before the first line, for what is wanted of each group. A search for a verdict has at most `budget` conflicts, and
+    /// one for a least or a greatest value looks at no more than `budget` lists.
+    pub fn new(alloc: Global, wanted: Wanted, budget: u32) -> Machine
+        ensures { result ≡ record { wanted = wanted; budget = budget; number = 0; underway = Outside } }
     {
         Machine {
-            reasons,
+            wanted,
             budget,
             number: 0,
             place: Place::Outside,
@@ -74,7 +74,7 @@ impl Machine {
 
     /// Refuses a group that isn't ended, and says whether there is one.
     fn leave_open(&self, out: &mut Vec<u8>) -> Result<bool, NoMemory>
-        ensures { IfOk result (λ refused. Appends self.now.reasons self.now.budget (left_open self.now.number self.now.underway) refused out.old.items out.new.items) }
+        ensures { IfOk result (λ refused. Appends self.now.wanted self.now.budget (left_open self.now.number self.now.underway) refused out.old.items out.new.items) }
     {
         match self.place {
             Place::Within => {
@@ -113,7 +113,7 @@ impl Machine {
 
     /// Refuses a line by a fault, and passes over what follows.
     fn refuse(&mut self, fault: Fault, out: &mut Vec<u8>) -> Result<bool, NoMemory>
-        ensures { IfOk result (λ refused. (self.new ≡ record self.old { underway = Passing }) × Appends self.old.reasons self.old.budget (Refuse self.old.number fault ∷ []) refused out.old.items out.new.items) }
+        ensures { IfOk result (λ refused. (self.new ≡ record self.old { underway = Passing }) × Appends self.old.wanted self.old.budget (Refuse self.old.number fault ∷ []) refused out.old.items out.new.items) }
     {
         self.place = Place::Passing;
         append_refused(self.number, fault, out)?;
@@ -127,7 +127,7 @@ impl Machine {
         match self.place {
             Place::Outside => self.refuse(Fault::NoGroup, out),
             Place::Passing => Ok(false),
-            Place::Within => match self.group.add(line, &mut self.rows)? {
+            Place::Within => match self.group.add(self.wanted, line, &mut self.rows)? {
                 Ok(()) => Ok(false),
                 Err(fault) => self.refuse(fault, out),
             },
@@ -146,25 +146,15 @@ impl Machine {
             }
             Place::Within => {
                 self.place = Place::Outside;
-                if self.reasons {
-                    reply_proved(
-                        alloc,
-                        &self.group,
-                        self.budget,
-                        self.number,
-                        &mut self.room,
-                        out,
-                    )
-                } else {
-                    reply_judged(
-                        alloc,
-                        &self.group,
-                        self.budget,
-                        self.number,
-                        &mut self.room,
-                        out,
-                    )
-                }
+                reply_wanted(
+                    alloc,
+                    self.wanted,
+                    &self.group,
+                    self.budget,
+                    self.number,
+                    &mut self.room,
+                    out,
+                )
             }
         }
     }
@@ -207,7 +197,7 @@ impl Machine {
     /// `NoMemory` where memory is refused.
     pub fn end(&mut self, out: &mut Vec<u8>) -> Result<bool, NoMemory>
         requires { self.old.number < 2 ^ 64 - 1 }
-        ensures { IfOk result (λ refused. Appends self.old.reasons self.old.budget (left_open (self.old.number + 1) self.old.underway) refused out.old.items out.new.items) }
+        ensures { IfOk result (λ refused. Appends self.old.wanted self.old.budget (left_open (self.old.number + 1) self.old.underway) refused out.old.items out.new.items) }
     {
         self.number += 1;
         self.leave_open(out)

@@ -28,7 +28,7 @@ pub enum Saying<'a> {
 }
 
 /// Whether a token is this byte.
-fn is_word(token: &[u8], word: u8) -> bool
+pub fn is_word(token: &[u8], word: u8) -> bool
     ensures { result ≡ is_word word token.now }
 {
     match token {

@@ -1,12 +1,13 @@
 //! The text of replies.
 
 ghost use Rattle.std.specs.Prelude.{◌≡◌, ◌++◌, IfOk, OnOk, Some};
-ghost use Rattle.std.specs.Fmt.{decimal};
+ghost use Rattle.std.specs.Fmt.{decimal, signed_decimal};
 ghost use Rattle.std.specs.List.{flat_map};
-ghost use Rattle.group_text.specs.Replies.{fault_number, fault_text, fault_word, reply_text, row_text};
-ghost use Rattle.group_text.specs.Replies.GroupReply.{Certain, Open, Refused};
+ghost use Rattle.group_text.specs.Replies.{end_text, fault_number, fault_text, fault_word, reply_text, row_text};
+ghost use Rattle.group_text.specs.Replies.GroupReply.{Between, Certain, Open, Refused};
 
 use crate::Fault;
+use choice_values::Best;
 use cnf_form::{Cnf, Log, formula_text};
 use cqa_value::NoMemory;
 use itoa::Buffer;
@@ -16,6 +17,15 @@ use std::alloc::Global;
 /// Appends a number in decimal.
 fn append_number(number: u64, out: &mut Vec<u8>) -> Result<(), NoMemory>
     ensures { OnOk result (out.new.items ≡ out.old.items ++ decimal number) }
+{
+    let mut buffer = Buffer::new();
+    out.extend_from_slice(buffer.format(number).as_bytes())?;
+    Ok(())
+}
+
+/// Appends a number in decimal, with its sign where it is negative.
+fn append_signed(number: i128, out: &mut Vec<u8>) -> Result<(), NoMemory>
+    ensures { OnOk result (out.new.items ≡ out.old.items ++ signed_decimal number) }
 {
     let mut buffer = Buffer::new();
     out.extend_from_slice(buffer.format(number).as_bytes())?;
@@ -37,7 +47,9 @@ fn fault_word(fault: Fault) -> &'static str
         Fault::BadRow => "BadRow",
         Fault::ManyNames => "Limit names 16000000",
         Fault::UnknownRow => "UnknownRow",
+        Fault::BadWeight => "BadWeight",
         Fault::Spent(_) => "Spent conflicts ",
+        Fault::Overworked(_) => "Spent work ",
         Fault::Unverified => "Unverified",
     }
 }
@@ -47,10 +59,11 @@ fn append_fault(fault: Fault, out: &mut Vec<u8>) -> Result<(), NoMemory>
     ensures { OnOk result (out.new.items ≡ out.old.items ++ fault_text fault) }
 {
     out.extend_from_slice(fault_word(fault).as_bytes())?;
-    if let Fault::Spent(budget) = fault {
-        append_number(budget as u64, out)?;
+    match fault {
+        Fault::Spent(budget) => append_number(budget as u64, out),
+        Fault::Overworked(budget) => append_number(budget as u64, out),
+        _ => Ok(()),
     }
-    Ok(())
 }
 
 /// Appends the refusal of a line by its number.
@@ -90,6 +103,29 @@ pub fn append_open(rows: &[u32], out: &mut Vec<u8>) -> Result<(), NoMemory>
 {
     out.extend_from_slice(b"open")?;
     append_rows(rows, out)?;
+    out.push(b'\n')?;
+    Ok(())
+}
+
+/// Appends a word, a value, and the rows of a choice that has it.
+fn append_end(word: &str, best: &Best, out: &mut Vec<u8>) -> Result<(), NoMemory>
+    ensures { OnOk result (out.new.items ≡ out.old.items ++ end_text word.now best.now) }
+{
+    out.extend_from_slice(word.as_bytes())?;
+    append_signed(best.value, out)?;
+    append_rows(best.rows.as_slice(), out)
+}
+
+/// Appends a least and a greatest value, each with a choice that has it.
+///
+/// # Errors
+///
+/// `NoMemory` where memory is refused.
+pub fn append_between(least: &Best, greatest: &Best, out: &mut Vec<u8>) -> Result<(), NoMemory>
+    ensures { OnOk result (out.new.items ≡ out.old.items ++ reply_text (Between least.now greatest.now)) }
+{
+    append_end("least ", least, out)?;
+    append_end(" greatest ", greatest, out)?;
     out.push(b'\n')?;
     Ok(())
 }

@@ -3,32 +3,37 @@
 ghost use Rattle.std.specs.Prelude.{◌≡◌, ◌+◌, ◌≤◌, [], Err, IfOk, MatchResult, Ok, length};
 ghost use Rattle.cnf_form.specs.Lines.{line_of, tokens};
 ghost use Rattle.group_text.specs.Names.{AreNamed, rows_after};
+ghost use Rattle.group_text.specs.Weights.{before_weight, from_weight};
 
 use crate::Fault;
 use crate::limits::MOST_NAMES;
 use crate::naming::read_row;
+use crate::reading::is_word;
 use block_choices::BlockRow;
 use cnf_form::scan::next_token;
 use cqa_value::NoMemory;
 
-/// The rows that the tokens of a line name, where so many rows are named before, or the first fault.
-pub fn read_rows(
+/// Reads the rows that the tokens of a line name, where so many rows are named before, and gives what stands behind them: nothing,
+/// or what begins with `=` where lists may have weights. Else the first fault.
+pub fn read_rows<'a>(
+    may: bool,
     sizes: &[u32],
     named: usize,
-    line: &[u8],
+    line: &'a [u8],
     rows: &mut Vec<BlockRow>,
-) -> Result<Result<(), Fault>, NoMemory>
+) -> Result<Result<&'a [u8], Fault>, NoMemory>
     requires { named ≤ MOST_NAMES }
     ensures { IfOk result (λ read. MatchResult read
-        (λ _. (rows_after sizes.now named [] (tokens (line_of line.now)) ≡ Ok rows.new.items) × AreNamed sizes.now named rows.new.items)
-        (λ fault. rows_after sizes.now named [] (tokens (line_of line.now)) ≡ Err fault)) }
+        (λ rest. (rows_after sizes.now named [] (before_weight may (tokens (line_of line.now))) ≡ Ok rows.new.items)
+        × (from_weight may (tokens (line_of line.now)) ≡ tokens (line_of rest.now)) × AreNamed sizes.now named rows.new.items)
+        (λ fault. rows_after sizes.now named [] (before_weight may (tokens (line_of line.now))) ≡ Err fault)) }
 {
     rows.clear();
     let mut text = line;
     loop {
         let (token, rest) = next_token(text);
-        if token.is_empty() {
-            return Ok(Ok(()));
+        if token.is_empty() || (may && is_word(token, b'=')) {
+            return Ok(Ok(text));
         }
         match read_row(sizes, named + rows.len(), token) {
             Err(fault) => return Ok(Err(fault)),

@@ -14,5 +14,5 @@ returns-clause-row g c = λ state.
     let reads_after = g.S.Source.faults c.judge_stream.new.source in
     let writes = g.K.Sink.faults c.args.sink.now in
     let writes_after = g.K.Sink.faults c.judge_stream.new.sink in
-    subst (λ ending. Ended (Some (Judge c.args.reasons c.args.budget)) ending (told left held reads writes) (told left_after held_after reads_after writes_after) state state) (sym c.ending_at.ensures)
-    (judged_row c.args.reasons c.args.budget c.judge_stream.result left left_after held held_after reads reads_after writes writes_after state c.judge_stream.ensures.row)
+    subst (λ ending. Ended (Some (Judge c.args.wanted c.args.budget)) ending (told left held reads writes) (told left_after held_after reads_after writes_after) state state) (sym c.ending_at.ensures)
+    (judged_row c.args.wanted c.args.budget c.judge_stream.result left left_after held held_after reads reads_after writes writes_after state c.judge_stream.ensures.row)

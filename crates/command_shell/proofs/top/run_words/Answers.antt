@@ -36,8 +36,8 @@ returns-in-Some-Demo-clause-demo_completed g c size words writes =
 
 pub returns-in-Some-Judge-clause-completed : goal.returns-in-Some-Judge-clause-completed
 returns-in-Some-Judge-clause-completed g c some words reads writes short =
-    completed (Some (Judge c.in-Some-Judge.reasons c.in-Some-Judge.budget)) c.judge.result _ _ c.args.session.now c.args.session.now _ c.code-in-Some-Judge.ensures (c.judge.ensures.row c.args.session.now) (λ e. (cc)) reads writes short
+    completed (Some (Judge c.in-Some-Judge.wanted c.in-Some-Judge.budget)) c.judge.result _ _ c.args.session.now c.args.session.now _ c.code-in-Some-Judge.ensures (c.judge.ensures.row c.args.session.now) (λ e. (cc)) reads writes short
 
 pub returns-in-Some-Judge-clause-demo_completed : goal.returns-in-Some-Judge-clause-demo_completed
 returns-in-Some-Judge-clause-demo_completed g c size words writes =
-    absurd (no_demo_judged (map string_bytes c.args.words.now) c.in-Some-Judge.reasons c.in-Some-Judge.budget size (subst (AreWordsFor c.args.words.now) c.in-Some-Judge.field-0-is c.in-Some-Judge.ensures) words)
+    absurd (no_demo_judged (map string_bytes c.args.words.now) c.in-Some-Judge.wanted c.in-Some-Judge.budget size (subst (AreWordsFor c.args.words.now) c.in-Some-Judge.field-0-is c.in-Some-Judge.ensures) words)

@@ -4,6 +4,7 @@ use Rattle.cqa_io.specs.Causes.{Rose}
 use Rattle.group_stream.specs.Judges.{Judges}
 use Rattle.group_stream.specs.Steps.{Gathered, Stands}
 use Rattle.group_stream.proofs.Going.{end_breaks, end_failed, end_handed, end_refused}
+use Rattle.group_text.specs.declared.wanted.Wanted.{Wanted}
 use Rattle.group_stream.proofs.gathering.Gathering.finish.Goals as goal
 
 pub returns-in_err-close-clause-row : goal.returns-in_err-close-clause-row
@@ -21,5 +22,5 @@ pub returns-clause-row : goal.returns-clause-row
 returns-clause-row g c =
     let out = c.as_slice.ensures.value ∙ ap (λ (m : Gathered). m.out) c.self.view_is in
     let put = subst (λ (xs : List ℕ). Appends (g.K.Sink.held c.args.sink.now) (g.K.Sink.held c.write_all.new.sink) xs) out c.in_ok-write_all.ensures.bytes in
-    subst (λ (b : Bool). (reasons : Bool) (budget : ℕ) (came written : List ℕ) → Stands reasons budget came written c.args.self.now → (more : List ℕ) × Appends (g.K.Sink.held c.args.sink.now) (g.K.Sink.held c.write_all.new.sink) more × Judges reasons budget came true (written ++ more) b)
+    subst (λ (b : Bool). (wanted : Wanted) (budget : ℕ) (came written : List ℕ) → Stands wanted budget came written c.args.self.now → (more : List ℕ) × Appends (g.K.Sink.held c.args.sink.now) (g.K.Sink.held c.write_all.new.sink) more × Judges wanted budget came true (written ++ more) b)
     (sym (ap (λ (m : Gathered). m.refused) c.self.view_is)) (end_handed c.args.self.now c.close.new.self (g.K.Sink.held c.args.sink.now) (g.K.Sink.held c.write_all.new.sink) c.in_ok-close.ensures put)
