@@ -31,7 +31,7 @@ def read(path):
 
 
 #: The words by which cases are run, by the kinds of their files; the others are checked.
-WORDS = {".cqa": "run", ".groups": "judge"}
+WORDS = {".cqa": ("run",), ".groups": ("judge",), ".ranges": ("judge", "ranges")}
 
 
 def cases():
@@ -43,7 +43,7 @@ def cases():
             continue
         wanted = read(os.path.join(DATA, topic + ".out"))
         status = int(any(line.startswith((b"error ", b"refused ")) for line in wanted.split(b"\n")))
-        yield "script_tests/data/" + name, Run((WORDS.get(kind, "check"),), read(os.path.join(DATA, name))), status, wanted, False
+        yield "script_tests/data/" + name, Run(WORDS.get(kind, ("check",)), read(os.path.join(DATA, name))), status, wanted, False
     for where, script, words, expected in blocks.scripts():
         yield where, Run(tuple(words.split()), script.encode()), None, expected.encode(), False
     for script, expected in blocks.statements():

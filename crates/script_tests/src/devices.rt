@@ -36,6 +36,12 @@ const FIRST_STATEMENT: usize = 70;
 /// A formula that nothing satisfies, and the step that says so.
 const REFUTED: &[u8] = b"c two units\np cnf 1 2\n1 0 -1\n0\nlrat\n3 0 1 2 0\n";
 
+/// Two groups of lists; the first is its first 40 bytes.
+const GROUPS: &[u8] = b"g 2 2 2\nl 1:1 2:1\nl 1:2 3:1\nl 2:2 3:1\ne\ng 2\nl\ne\n";
+
+/// The length of the first group.
+const FIRST_GROUP: usize = 40;
+
 /// A run that is answered whole.
 pub const ANSWERED: Case<'static> = Case {
     words: &["run"],
@@ -75,6 +81,21 @@ const FIRST_WRITE_FAILS: Case<'static> = Case {
     write: 1,
     output: b"",
     ..WRITE_FAILS
+};
+
+/// Groups that are answered whole, the first one before the second is read.
+const JUDGED: Case<'static> = Case {
+    words: &["judge"],
+    input: GROUPS,
+    piece: FIRST_GROUP,
+    output: b"open 1 2 2\ncertain\n",
+    ..ANSWERED
+};
+
+/// The same groups where a read or a write fails behind the first reply.
+const JUDGED_IN_PART: Case<'static> = Case {
+    output: b"open 1 2 2\n",
+    ..JUDGED
 };
 
 /// Words that aren't accepted.
@@ -260,6 +281,51 @@ const FAILING: [Case<'static>; 9] = [
     },
 ];
 
+/// Where a device fails, the groups that came before are answered.
+const JUDGES: [Case<'static>; 9] = [
+    JUDGED,
+    Case { piece: 1, ..JUDGED },
+    Case {
+        read: 1,
+        status: 3,
+        output: b"",
+        ..JUDGED
+    },
+    Case {
+        read: 2,
+        status: 3,
+        ..JUDGED_IN_PART
+    },
+    Case {
+        piece: 1,
+        read: 45,
+        status: 3,
+        ..JUDGED_IN_PART
+    },
+    Case {
+        read: 3,
+        status: 3,
+        ..JUDGED
+    },
+    Case {
+        write: 1,
+        status: 4,
+        output: b"",
+        ..JUDGED
+    },
+    Case {
+        write: 2,
+        status: 4,
+        ..JUDGED_IN_PART
+    },
+    Case {
+        room: 14,
+        status: 4,
+        output: b"open 1 2 2\ncer",
+        ..JUDGED
+    },
+];
+
 /// How many cases of a table end otherwise. A line says which.
 fn failures(rt: &HostRuntime, table: &str, cases: &[Case<'static>]) -> io::Result<u64> {
     let mut failed = 0u64;
@@ -328,7 +394,9 @@ fn all_failures(rt: &HostRuntime) -> io::Result<u64> {
     let runs = failures(rt, "a status of run", &RUNS)?;
     let checks = failures(rt, "a status of check", &CHECKS)?;
     let failing = failures(rt, "a device that fails", &FAILING)?;
+    let judges = failures(rt, "a status of judge", &JUDGES)?;
     let statuses = runs.saturating_add(checks).saturating_add(failing);
+    let statuses = statuses.saturating_add(judges);
     Ok(refusals.saturating_add(demos).saturating_add(statuses))
 }
 

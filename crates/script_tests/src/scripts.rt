@@ -1,5 +1,5 @@
 //! The cases that are scripts, in this folder: `TOPIC.cqa`, for `check` `TOPIC.lrat` or `TOPIC.rewriting`, for `judge`
-//! `TOPIC.groups`, and beside each the output that it has to give, `TOPIC.out`.
+//! `TOPIC.groups`, for `judge ranges` `TOPIC.ranges`, and beside each the output that it has to give, `TOPIC.out`.
 
 use crate::comparing::ends_as_wanted;
 use crate::running::Case;
@@ -11,20 +11,6 @@ const PIECES: [usize; 4] = [1, 2, 7, 65_536];
 
 /// The bytes of an output that are kept beside those that are wanted.
 const MORE_ROOM: usize = 4096;
-
-/// The word that the program is run with on a file of this kind.
-fn word_for(kind: &str) -> Option<&'static str> {
-    if kind == "cqa" {
-        return Some("run");
-    }
-    if kind == "lrat" || kind == "rewriting" {
-        return Some("check");
-    }
-    if kind == "groups" {
-        return Some("judge");
-    }
-    None
-}
 
 /// The status that a script is to end with: 1 where a line of its output is a refusal, else 0.
 fn wanted_status(wanted: &[u8]) -> u8 {
@@ -42,13 +28,13 @@ fn wanted_output(rt: &HostRuntime, topic: &str) -> io::Result<Vec<u8>> {
 fn gives(
     rt: &HostRuntime,
     name: &str,
-    word: &str,
+    words: &[&str],
     script: &[u8],
     wanted: &[u8],
 ) -> io::Result<bool> {
     for piece in PIECES {
         let case = Case {
-            words: &[word],
+            words,
             input: script,
             piece,
             read: 0,
@@ -66,13 +52,13 @@ fn gives(
 }
 
 /// Whether a script gives the output that stands beside it.
-fn gives_its_output(rt: &HostRuntime, name: &str, topic: &str, word: &str) -> io::Result<bool> {
+fn gives_its_output(rt: &HostRuntime, name: &str, topic: &str, words: &[&str]) -> io::Result<bool> {
     let Ok(wanted) = wanted_output(rt, topic) else {
         println!(rt; "{name}: no file {topic}.out")?;
         return Ok(false);
     };
     let script = fs::read(rt, name)?;
-    gives(rt, name, word, script.as_slice(), wanted.as_slice())
+    gives(rt, name, words, script.as_slice(), wanted.as_slice())
 }
 
 /// Whether a topic has a script.
@@ -82,11 +68,13 @@ fn has_script(rt: &HostRuntime, topic: &str) -> io::Result<bool> {
     let proof = format!(in alloc; "{topic}.lrat")?;
     let certificate = format!(in alloc; "{topic}.rewriting")?;
     let groups = format!(in alloc; "{topic}.groups")?;
+    let ranges = format!(in alloc; "{topic}.ranges")?;
     Ok(
         fs::exists(rt, script.as_str())?
             || fs::exists(rt, proof.as_str())?
             || fs::exists(rt, certificate.as_str())?
-            || fs::exists(rt, groups.as_str())?,
+            || fs::exists(rt, groups.as_str())?
+            || fs::exists(rt, ranges.as_str())?,
     )
 }
 
@@ -96,8 +84,17 @@ fn passes(rt: &HostRuntime, name: &str) -> io::Result<bool> {
         println!(rt; "{name}: neither a script nor an output")?;
         return Ok(false);
     };
-    if let Some(word) = word_for(kind) {
-        return gives_its_output(rt, name, topic, word);
+    if kind == "cqa" {
+        return gives_its_output(rt, name, topic, &["run"]);
+    }
+    if kind == "lrat" || kind == "rewriting" {
+        return gives_its_output(rt, name, topic, &["check"]);
+    }
+    if kind == "groups" {
+        return gives_its_output(rt, name, topic, &["judge"]);
+    }
+    if kind == "ranges" {
+        return gives_its_output(rt, name, topic, &["judge", "ranges"]);
     }
     let is_output = kind == "out" && has_script(rt, topic)?;
     if !is_output {
