@@ -23,6 +23,7 @@ MOST_OUTPUT = 1 << 20
 
 _CRATE = os.path.join("crates", "cqa_cli")
 _SECONDS = 900
+_ENDINGS = (signal.SIGINT, signal.SIGTERM, signal.SIGHUP)
 _CASE = re.compile(r"case=(\S+) run=(\w+)(?: status=(\d+))?")
 _WALL_SECONDS = {1: "two to four minutes on one processor", 2: "one to three minutes on two processors", 3: "one to two minutes on three processors"}
 
@@ -121,13 +122,23 @@ def _cases(folder: str, runs: Sequence[Run]) -> List[str]:
 
 def _ended(words: Sequence[str], folder: str, room: str, written: int, told: int) -> int:
     """Runs the kit's command to its end and gives its status. Where this is interrupted it is ended first."""
-    process = subprocess.Popen(words, cwd=folder, env={**os.environ, "TMPDIR": room}, stdin=subprocess.DEVNULL, stdout=written, stderr=told,
-                               start_new_session=True)
+    with _begun(words, folder, room, written, told) as process, _elapsed():
+        return process.wait()
+
+
+@contextlib.contextmanager
+def _begun(words: Sequence[str], folder: str, room: str, written: int, told: int) -> Iterator["subprocess.Popen[bytes]"]:
+    """The kit's command, which is ended where it isn't waited for. No signal comes between its start and what ends it."""
+    before = signal.pthread_sigmask(signal.SIG_BLOCK, _ENDINGS)
+    process = None
     try:
-        with _elapsed():
-            return process.wait()
+        process = subprocess.Popen(words, cwd=folder, env={**os.environ, "TMPDIR": room}, stdin=subprocess.DEVNULL, stdout=written, stderr=told,
+                                   start_new_session=True, preexec_fn=lambda: signal.pthread_sigmask(signal.SIG_SETMASK, before))
+        signal.pthread_sigmask(signal.SIG_SETMASK, before)
+        yield process
     finally:
-        if process.poll() is None:
+        signal.pthread_sigmask(signal.SIG_SETMASK, before)
+        if process is not None and process.poll() is None:
             process.terminate()
             try:
                 process.wait(10)
