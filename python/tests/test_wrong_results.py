@@ -397,8 +397,8 @@ class ListsOfOnesOwn(ProgramCase):
 
 
 class Elsewhere(Case):
-    def test_the_readmes_sql_by_hand_is_plain_sql(self) -> None:
-        with open(os.path.join(TOP, "README.md"), encoding="utf-8") as file:
+    def test_the_sql_by_hand_is_plain_sql(self) -> None:
+        with open(os.path.join(TOP, "docs", "SQL.md"), encoding="utf-8") as file:
             text = file.read()
         found = re.search(r"`(select distinct max\(name\).*?)`", text, flags=re.S)
         assert found is not None
