@@ -3,6 +3,7 @@
 from __future__ import annotations
 
 import os
+import signal
 import subprocess
 import sys
 import tempfile
@@ -20,6 +21,11 @@ try:
     PROGRAM: Optional[str] = found_program()
 except NotBuilt:
     PROGRAM = None
+
+
+def heeds_interrupts() -> None:
+    """In the background of a shell, Ctrl-C is ignored by what is started there."""
+    signal.signal(signal.SIGINT, signal.SIG_DFL)
 
 
 class Case(unittest.TestCase):

@@ -15,7 +15,7 @@ from contextlib import redirect_stderr, redirect_stdout
 from typing import Callable, Dict, List, Tuple
 from unittest import mock
 
-from support import PROGRAM, TOP, Case, ProgramCase
+from support import PROGRAM, TOP, Case, ProgramCase, heeds_interrupts
 
 from cqa import trying
 
@@ -68,11 +68,6 @@ WAITS = "#!/bin/sh\nwhile true; do echo >>\"$ROOM/waiting\"; sleep 0.1; done\n"
 LISTS = "create table t (id int, name text, source text, primary key (id));\ncopy t;\n1,a,x\n1,b,y\n2,c,x\n\\.\n"
 
 
-def _heeds_interrupts() -> None:
-    """In the background of a shell, Ctrl-C is ignored by what is started there."""
-    signal.signal(signal.SIGINT, signal.SIG_DFL)
-
-
 def _as_another_user() -> None:
     """Root may write everywhere."""
     if os.geteuid() == 0:
@@ -108,7 +103,7 @@ class KitCase(Case):
     def begun(self, *words: str, environment: Dict[str, str]) -> "subprocess.Popen[bytes]":
         """Begins a command, and gives it once its kit waits."""
         process = subprocess.Popen(words, env=environment, cwd=self.folder, stdin=subprocess.DEVNULL, stdout=subprocess.PIPE, stderr=subprocess.PIPE,
-                                   start_new_session=True, preexec_fn=_heeds_interrupts)
+                                   start_new_session=True, preexec_fn=heeds_interrupts)
         self.wait_for_kit()
         return process
 
@@ -260,7 +255,7 @@ class BuildTest(KitCase):
     def build(self, **more: str) -> "subprocess.Popen[bytes]":
         """Begins a build."""
         return subprocess.Popen([self.path("top/cqa"), "build"], env={**self.environment, **more}, stdin=subprocess.DEVNULL, stdout=subprocess.PIPE,
-                                stderr=subprocess.PIPE, bufsize=0, start_new_session=True, preexec_fn=_heeds_interrupts)
+                                stderr=subprocess.PIPE, bufsize=0, start_new_session=True, preexec_fn=heeds_interrupts)
 
     def told_until(self, build: "subprocess.Popen[bytes]", words: str) -> str:
         """What a build tells up to a line with these words."""

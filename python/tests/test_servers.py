@@ -13,7 +13,7 @@ import time
 import unittest
 from typing import Any, List, Set, Tuple
 
-from support import HERE, TOP, Case
+from support import HERE, TOP, Case, heeds_interrupts
 
 from cqa.database import Database
 from cqa.errors import DatabaseFault, QueryRefused
@@ -310,10 +310,10 @@ class OverPostgres(OverBoth, ServerCase):
     def test_a_client_that_ends_leaves_no_query(self) -> None:
         self.more_orders(600)
         url = "postgresql://postgres@/%s?host=%s" % (self.name, self.server.server.folder)
-        for number, wait in ((signal.SIGINT, 2), (signal.SIGKILL, 8)):
+        for number, wait in ((signal.SIGINT, 20), (signal.SIGKILL, 30)):
             child = subprocess.Popen([sys.executable, "-m", "cqa", "ask", "--possible", "--db", url, "--key", "orders=oid", SLOW], stdout=subprocess.DEVNULL,
-                                     stderr=subprocess.DEVNULL, env=dict(os.environ, PYTHONPATH=os.path.dirname(HERE)))
-            self.until(lambda: self.running() == 1, 20)
+                                     stderr=subprocess.DEVNULL, env=dict(os.environ, PYTHONPATH=os.path.dirname(HERE)), preexec_fn=heeds_interrupts)
+            self.until(lambda: self.running() == 1, 60)
             child.send_signal(number)
             self.assertEqual(child.wait(timeout=10), 130 if number == signal.SIGINT else -9)
             self.until(lambda: self.running() == 0, wait)

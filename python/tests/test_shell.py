@@ -141,7 +141,7 @@ class AtATerminal(ProgramCase):
         self.master, slave = pty.openpty()
         environment = dict(os.environ, PYTHONPATH=os.path.dirname(support.HERE), CQA_PROGRAM=program, CQA_HISTORY=self.path("history"), TERM="dumb")
         self.child = subprocess.Popen([sys.executable, "-m", "cqa", "shell"], stdin=slave, stdout=slave, stderr=slave, env=environment, cwd=self.folder,
-                                      start_new_session=True)
+                                      start_new_session=True, preexec_fn=support.heeds_interrupts)
         os.close(slave)
         self.addCleanup(self.child.wait)
         self.addCleanup(self.child.kill)
