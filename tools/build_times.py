@@ -17,9 +17,9 @@ from progress import crates_below, measured, task_times
 HERE = os.path.dirname(os.path.abspath(__file__))
 TOP = os.path.dirname(HERE)
 TABLE = os.path.join(HERE, "build_times.txt")
-HEAD = """# Seconds of processor time in which each crate was proved from nothing, in the last build that was measured. The table is made by
-# tools/build_times.py, and says only how far a build is: no proof rests on it. A crate that no measured build proved has an
-# estimate by its size.
+HEAD = """# Seconds of processor time in which each crate is proved from nothing, as the last build that was measured shares them out, at the
+# speed of the first machine. The table is made by tools/build_times.py, and says only how far a build is: no proof rests on it. A
+# crate that no measured build proved has an estimate by its size.
 """
 
 
@@ -42,6 +42,13 @@ def of_process(root):
     return times
 
 
+def at_the_tables_speed(found, known):
+    """Times as the table's machine would take them, by the crates that both have."""
+    both = [name for name in found if name in known]
+    speed = sum(known[name] for name in both) / sum(found[name] for name in both) if both else 1
+    return {name: seconds * speed for name, seconds in found.items()}
+
+
 def is_proof(words, folder):
     """Whether a prover's words are those of a crate's own proof, and not of its tests, nor of an edit, which is tried in a copy."""
     return "--test" not in words and os.path.basename(folder) == words[words.index("--crate-name") + 1] and "/rt-" not in folder
@@ -54,7 +61,7 @@ def main(words):
         found = of_log(words[0] if words else os.path.join(TOP, "crates", "cqa_cli", "out", "cqa_cli.log"))
     known = measured(TABLE) if os.path.exists(TABLE) else {}
     crates = crates_below(os.path.join(TOP, "crates.txt"), "cqa_cli")
-    known.update(found)
+    known.update(at_the_tables_speed(found, known))
     with open(TABLE, "w", encoding="utf-8") as file:
         file.write(HEAD + "".join("%s %.0f\n" % (name, known[name]) for name in crates if name in known))
     lacking = [name for name in crates if name not in known]
