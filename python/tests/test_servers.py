@@ -310,9 +310,11 @@ class OverPostgres(OverBoth, ServerCase):
     def test_a_client_that_ends_leaves_no_query(self) -> None:
         self.more_orders(600)
         url = "postgresql://postgres@/%s?host=%s" % (self.name, self.server.server.folder)
+        driver = os.path.dirname(os.path.dirname(psycopg2.__file__))
+        environment = dict(os.environ, PYTHONPATH=os.pathsep.join([os.path.dirname(HERE), driver]))
         for number, wait in ((signal.SIGINT, 20), (signal.SIGKILL, 30)):
             child = subprocess.Popen([sys.executable, "-m", "cqa", "ask", "--possible", "--db", url, "--key", "orders=oid", SLOW], stdout=subprocess.DEVNULL,
-                                     stderr=subprocess.DEVNULL, env=dict(os.environ, PYTHONPATH=os.path.dirname(HERE)), preexec_fn=heeds_interrupts)
+                                     stderr=subprocess.DEVNULL, env=environment, preexec_fn=heeds_interrupts)
             self.until(lambda: self.running() == 1, 60)
             child.send_signal(number)
             self.assertEqual(child.wait(timeout=10), 130 if number == signal.SIGINT else -9)
